@@ -1,0 +1,4 @@
+pub mod Cuts
+pub mod Matching
+pub mod Walking
+pub mod Needs

@@ -1,0 +1,14 @@
+use Prim.Native.Nat.{_-_}
+use Rattle.text.specs.Cells.{cut}
+use Rattle.text.specs.Search.{found}
+use Rattle.text.proofs.Matching.{Reached}
+use Rattle.text.proofs.search.find.Given as given
+
+abbrev pub Inv-loop-span : given.InvT-loop-span
+Inv-loop-span g l =
+    let cells = g .T·Text .cells (l .text) in
+    let spelt = g .Tag·Needle .spelt (l .tag) in
+    Reached cells spelt (l .span .start) (l .span .end) (found (cut cells (l .span .start) (l .span .end)) spelt) (l .at)
+
+abbrev pub μ-loop-span : given.MeasureT-loop-span
+μ-loop-span g l = l .span .end - l .at

@@ -1,0 +1,5 @@
+pub mod Cells
+pub mod Search
+pub mod Need
+pub mod Answers
+pub mod Singles
