@@ -1,0 +1,12 @@
+use Prim.Native.Nat.{_-_, _≤_, _+_}
+use mathlib.Core.Path.{_≡_}
+use lib.ListN.{length, drop}
+use Rattle.text.specs.Cells.{total}
+use Rattle.utf8.specs.Octets.{scan}
+use Rattle.utf8.proofs.check.valid_up_to.Given as given
+
+abbrev pub Inv-loop-at : given.InvT-loop-at
+Inv-loop-at l = (l .at ≤ length (l .bytes)) × (l .at + total (scan (drop (l .at) (l .bytes))) ≡ total (scan (l .bytes)))
+
+abbrev pub μ-loop-at : given.MeasureT-loop-at
+μ-loop-at l = length (l .bytes) - l .at

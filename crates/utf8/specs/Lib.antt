@@ -1,0 +1,4 @@
+pub mod Octets
+pub mod Scans
+pub mod Rfc
+pub mod Answers
