@@ -4,13 +4,14 @@ use mathlib.Core.Path.{_≡_, refl, sym, ap, subst, _∙_}
 use mathlib.Core.Logic.{⊎-elim}
 use mathlib.Core.Bool.{Bool, true, false, cond}
 use mathlib.Core.List.{List, [], _∷_}
-use native.Mathlib.Nat.{add-zero}
+use native.Mathlib.Nat.{add-zero, zero-add, sub-zero}
 use native.Mathlib.Omega.{arith}
-use lib.Dec.{leb, eqb}
+use lib.Dec.{leb, leb·zero, leb·suc-suc}
 use lib.ListN.{length, take, drop, getD}
 use Rattle.std.proofs.shelf.Tests.{cases-bool, cond-true, cond-false, le-leb, lt-leb, ne-eqb, eq-eqb}
 use Rattle.std.proofs.shelf.Lists.{drop-more, drop-all, drop-drop, length-take-le, length-drop}
 use Rattle.std.specs.declared.option.Option.the-variants.{Some, None}
+use Rattle.std.specs.declared.result.Result.{Result}
 use Rattle.std.specs.declared.result.Result.the-variants.{Ok, Err}
 use Rattle.text.specs.declared.Needed.{Needed}
 use Rattle.text.specs.Cells.{Cell, total, Solid, before, cut, Within, first, singles}
@@ -135,3 +136,63 @@ module _ (lack : ℕ → Needed) (n len : ℕ) (bs : List ℕ) (e : length bs �
   sliced-short h =
       let l = length-singles bs in
       cond-false _ _ _ (lt-leb n (length (singles bs)) (omega arith)) ∙ ap (λ k. Err (lack (n - k))) (l ∙ e)
+
+-- a slice of items, one on: the answer, w bytes further
+abbrev pub moved : ℕ → Result ℕ Needed → Result ℕ Needed
+moved w (Ok n) = Ok (w + n)
+moved w (Err e) = Err e
+
+moved-moved : (a b n : ℕ) (r : Result ℕ Needed) → a + b ≡ n → moved a (moved b r) ≡ moved n r
+moved-moved a b n (Ok x) e = let s : a + (b + x) ≡ n + x = omega arith in ap Ok s
+moved-moved a b n (Err x) e = refl
+
+sliced-on : (lack : ℕ → Needed) (n : ℕ) (c : Cell) (cs : List Cell) → 0 < n → sliced lack n (c ∷ cs) ≡ moved (c .1) (sliced lack (n - 1) cs)
+sliced-on lack zero c cs h = absurd (omega arith)
+sliced-on lack (suc n) c cs h =
+    let a : suc n - 1 ≡ n = omega arith in
+    let b : suc n - suc (length cs) ≡ n - length cs = omega arith in
+    rw (a, b, leb·suc-suc n (length cs)) (go (leb n (length cs)))
+  where
+    go : (b : Bool) → cond b (Ok (c .1 + total (take n cs))) (Err (lack (n - length cs))) ≡ moved (c .1) (cond b (Ok (total (take n cs))) (Err (lack (n - length cs))))
+    go true = refl
+    go false = refl
+
+-- a slice of items of the span from s to e, which comes out at `out`, has come to byte `at`, with `left` items to go
+pub record Slicing (lack : ℕ → Needed) (cells : List Cell) (s e : ℕ) (out : Result ℕ Needed) (at left : ℕ) : Type 0 where
+  pub start : s ≤ at
+  pub within : Within cells at e
+  pub so-far : moved (at - s) (sliced lack left (cut cells at e)) ≡ out
+
+pub slicing-start : (lack : ℕ → Needed) (cells : List Cell) (s e n : ℕ) → Within cells s e → Slicing lack cells s e (sliced lack n (cut cells s e)) s n
+slicing-start lack cells s e n w =
+    let z : s - s ≡ 0 = omega arith in
+    record { start = omega arith; within = w; so-far = ap (λ k. moved k (sliced lack n (cut cells s e))) z ∙ unmoved (sliced lack n (cut cells s e)) }
+  where
+    unmoved : (r : Result ℕ Needed) → moved 0 r ≡ r
+    unmoved (Ok x) = ap Ok (zero-add x)
+    unmoved (Err x) = refl
+
+module _ (lack : ℕ → Needed) (cells : List Cell) (s e : ℕ) (out : Result ℕ Needed) (at left : ℕ) (here : Slicing lack cells s e out at left) where
+  pub slicing-on : (c : Cell) → On cells at e c → 0 < left → Slicing lack cells s e out (at + c .1) (left - 1)
+  slicing-on c on h =
+      let k : s ≤ at = here .start in
+      let sum : at - s + c .1 ≡ at + c .1 - s = omega arith in
+      record {
+        start = omega arith;
+        within = on .within;
+        so-far =
+          sym (moved-moved (at - s) (c .1) (at + c .1 - s) (sliced lack (left - 1) (cut cells (at + c .1) e)) sum)
+          ∙ ap (moved (at - s)) (sym (ap (sliced lack left) (on .cuts) ∙ sliced-on lack left c (cut cells (at + c .1) e) h))
+          ∙ here .so-far;
+      }
+
+  pub slicing-done : left ≤ 0 → Ok (at - s) ≡ out
+  slicing-done h =
+      let none : left ≡ 0 = omega arith in
+      let zero : sliced lack left (cut cells at e) ≡ Ok 0 = ap (λ n. sliced lack n (cut cells at e)) none ∙ cond-true _ _ _ (leb·zero (length (cut cells at e))) in
+      ap Ok (sym (add-zero (at - s))) ∙ ap (moved (at - s)) (sym zero) ∙ here .so-far
+
+  pub slicing-short : cut cells at e ≡ [] → 0 < left → Err (lack left) ≡ out
+  slicing-short z h =
+      let short : sliced lack left (cut cells at e) ≡ Err (lack left) = ap (sliced lack left) z ∙ cond-false _ _ _ (lt-leb left 0 h) ∙ ap (λ n. Err (lack n)) (sub-zero left) in
+      ap (moved (at - s)) (sym short) ∙ here .so-far

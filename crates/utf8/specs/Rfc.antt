@@ -6,6 +6,7 @@ use mathlib.Core.List.{List, [], _∷_, _++_}
 use lib.ListN.{length, take}
 use Rattle.std.specs.declared.result.Result.{Result}
 use Rattle.std.specs.declared.result.Result.the-variants.{Ok, Err}
+use Rattle.text.specs.Cells.{Cell}
 use Rattle.text.specs.declared.Refusal.{Refusal}
 use Rattle.text.specs.declared.Refusal.the-variants.{TextTooLong, Malformed, TagTooLong}
 
@@ -52,6 +53,11 @@ pub data Char : List ℕ → ℕ → Type 0 where
 pub data Octets : List ℕ → List ℕ → Type 0 where
   none : Octets [] []
   more : {os rest codes : List ℕ} {code : ℕ} → Char os code → Octets rest codes → Octets (os ++ rest) (code ∷ codes)
+
+-- the codes of a list of items
+abbrev pub codes : List Cell → List ℕ
+codes [] = []
+codes (c ∷ cs) = c .0 ∷ codes cs
 
 -- the bytes are UTF-8
 abbrev pub Utf8 : List ℕ → Type 0

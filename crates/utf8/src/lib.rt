@@ -4,5 +4,11 @@
 // and stepping over a code point tests nothing.
 pub mod check;
 pub mod rows;
+pub mod texts;
 
 pub use check::valid_up_to;
+pub use texts::Utf8Tag;
+pub use texts::Utf8TagNeedle;
+pub use texts::Utf8Text;
+pub use texts::Utf8TextText;
+pub use texts::compare_chars;
