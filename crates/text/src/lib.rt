@@ -158,9 +158,9 @@ impl Refusal {
 pub impl fmt::Display for Refusal as RefusalDisplay {
     fn fmt<W: fmt::Write>(&self, f: &mut fmt::Formatter<W>) -> fmt::Result {
         match self {
-            Refusal::TextTooLong(len) => write!(f, "the text has {len} bytes, and at most 1048576 are allowed"),
-            Refusal::Malformed(valid) => write!(f, "not well-formed UTF-8 after byte {valid}"),
-            Refusal::TagTooLong(len) => write!(f, "the tag has {len} bytes, and at most 32 are allowed"),
+            Refusal::TextTooLong(len) => write!(f, "the text has {len} bytes, and a text may have at most 1048576"),
+            Refusal::Malformed(valid) => write!(f, "not well-formed UTF-8; the longest well-formed prefix has {valid} bytes"),
+            Refusal::TagTooLong(len) => write!(f, "the tag has {len} bytes, and a tag may have at most 32"),
         }
     }
 }
