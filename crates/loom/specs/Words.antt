@@ -25,10 +25,10 @@ abbrev pub With : List (String Global) → List ℕ → List (String Global) →
 With [] word others = ⊥
 With (w ∷ ws) word others = (string-bytes w ≡ word) × (0 < length ws) × (others ≡ ws)
 
--- the first word is none of the commands
-abbrev pub Strange : List (String Global) → Type 0
-Strange [] = ⊥
-Strange (w ∷ ws) = (string-bytes w ≡ codes "--help" → ⊥) × (string-bytes w ≡ codes "text" → ⊥)
+-- the first word is this one, and none of the commands
+abbrev pub Strange : List (String Global) → List ℕ → Type 0
+Strange [] word = ⊥
+Strange (w ∷ ws) word = (string-bytes w ≡ word) × (word ≡ codes "--help" → ⊥) × (word ≡ codes "text" → ⊥)
 
 abbrev pub Parsed : List (String Global) → Result Command UsageError → Type 0
 Parsed ws (Ok Help) = Alone ws (codes "--help")
@@ -36,4 +36,4 @@ Parsed ws (Ok (Text names)) = With ws (codes "text") (now names)
 Parsed ws (Err NoCommand) = length ws ≡ 0
 Parsed ws (Err NoFile) = Alone ws (codes "text")
 Parsed ws (Err TooManyWords) = With ws (codes "--help") (drop 1 ws)
-Parsed ws (Err UnknownCommand) = Strange ws
+Parsed ws (Err (UnknownCommand word)) = Strange ws (now word)

@@ -10,20 +10,20 @@ pub enum Command<'a> {
     Text(&'a [String]),
 }
 
-#[derive(Clone, Copy, PartialEq, Eq, Debug)]
-pub enum UsageError {
+#[derive(Clone, Copy)]
+pub enum UsageError<'a> {
     NoCommand,
-    UnknownCommand,
+    UnknownCommand(&'a str),
     NoFile,
     // words that the command does not take
     TooManyWords,
 }
 
-pub impl fmt::Display for UsageError as UsageErrorDisplay {
+pub impl<'a> fmt::Display for UsageError<'a> as UsageErrorDisplay {
     fn fmt<W: fmt::Write>(&self, f: &mut fmt::Formatter<W>) -> fmt::Result {
         match self {
             UsageError::NoCommand => write!(f, "no command given"),
-            UsageError::UnknownCommand => write!(f, "no such command"),
+            UsageError::UnknownCommand(word) => write!(f, "'{word}' is not a command"),
             UsageError::NoFile => write!(f, "'text' takes at least one file"),
             UsageError::TooManyWords => write!(f, "'--help' takes no other words"),
         }
@@ -32,13 +32,14 @@ pub impl fmt::Display for UsageError as UsageErrorDisplay {
 
 impl<'a> Command<'a> {
     // The words are those after the program's name.
-    pub fn parse(words: &'a [String]) -> Result<Command<'a>, UsageError>
+    pub fn parse(words: &'a [String]) -> Result<Command<'a>, UsageError<'a>>
         ensures { λ r. ⌜ Parsed (now (words .entry)) r ⌝ }
     {
         let [first, rest @ ..] = words else {
             return Err(UsageError::NoCommand);
         };
-        match first.as_str() {
+        let word = first.as_str();
+        match word {
             "--help" => {
                 if rest.len() > 0 {
                     return Err(UsageError::TooManyWords);
@@ -51,7 +52,7 @@ impl<'a> Command<'a> {
                 }
                 Ok(Command::Text(rest))
             }
-            _ => Err(UsageError::UnknownCommand),
+            _ => Err(UsageError::UnknownCommand(word)),
         }
     }
 }

@@ -20,4 +20,4 @@ with-rest (x ∷ ws) w word e b h n =
     (ap string-bytes (sym e) ∙ b, omega arith, all)
 
 pub returns-else-rest-eq0 : need.returns-else-rest-eq0
-returns-else-rest-eq0 c = with-rest (c .args .words .now) (c .first-item .result) _ (c .first-item .is) (sym (c .as-str .ensures .value) ∙ c .in-text-2 .is) (omega arith) (c .if-rest-eq0 .left)
+returns-else-rest-eq0 c = with-rest (c .args .words .now) (c .first-item .result) _ (c .first-item .is) (sym (c .as-str-word .ensures .value) ∙ c .in-text-2 .is) (omega arith) (c .if-rest-eq0 .left)
