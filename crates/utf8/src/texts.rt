@@ -1,5 +1,5 @@
 // Texts and tags whose items are code points.
-ghost use Prim.Native.Nat.{suc, _≤_};
+ghost use Prim.Native.Nat.{suc, _+_, _≤_};
 ghost use denote.Ref.{now};
 ghost use mathlib.Core.Path.{_≡_};
 ghost use mathlib.Core.Bool.{true};
@@ -120,25 +120,27 @@ fn char_len(lead: u8) -> usize
     }
 }
 
-// The code point that starts at `at`, where one does: no byte is held against its range again.
-fn char_at(bytes: &[u8], at: usize) -> u32
+// The code point that starts at `at`, where one does, and where the next starts: no byte is held against its range again.
+// Each width has a way of its own through the function, which a processor foretells better than a computed width.
+fn char_at(bytes: &[u8], at: usize) -> (u32, usize)
     requires { ⌜ isSome (char-of (rest at (now bytes))) ≡ true ⌝ }
-    ensures { λ r. ⌜ Some (r, suc (tails-of (getD (now (bytes .entry)) at 0))) ≡ char-of (rest at (now (bytes .entry))) ⌝ }
+    ensures point { λ r. ⌜ Some (r .0, suc (tails-of (getD (now (bytes .entry)) at 0))) ≡ char-of (rest at (now (bytes .entry))) ⌝ }
+    ensures next { λ r. ⌜ r .1 ≡ at + suc (tails-of (getD (now (bytes .entry)) at 0)) ⌝ }
 {
     let lead = bytes[at];
     if lead < 0x80 {
-        return lead as u32;
+        return (lead as u32, at + 1);
     }
     let second = (bytes[at + 1] - 0x80) as u32;
     if lead < 0xE0 {
-        return (lead - 0xC0) as u32 * 64 + second;
+        return ((lead - 0xC0) as u32 * 64 + second, at + 2);
     }
     let third = (bytes[at + 2] - 0x80) as u32;
     if lead < 0xF0 {
-        return ((lead - 0xE0) as u32 * 64 + second) * 64 + third;
+        return (((lead - 0xE0) as u32 * 64 + second) * 64 + third, at + 3);
     }
     let fourth = (bytes[at + 3] - 0x80) as u32;
-    (((lead - 0xF0) as u32 * 64 + second) * 64 + third) * 64 + fourth
+    ((((lead - 0xF0) as u32 * 64 + second) * 64 + third) * 64 + fourth, at + 4)
 }
 
 // How bytes compare with a tag's bytes. Where both are well-formed, comparing bytes is comparing code points.
@@ -159,7 +161,8 @@ pub impl<'a> Needle for Utf8Tag<'a> as Utf8TagNeedle {
 
     fn first(&self) -> Option<u32> {
         if self.bytes.len() > 0 {
-            Some(char_at(self.bytes, 0))
+            let (code, _next) = char_at(self.bytes, 0);
+            Some(code)
         } else {
             None
         }
@@ -189,7 +192,8 @@ pub impl<'a> Text for Utf8Text<'a> as Utf8TextText {
 
     fn item(&self, span: Span) -> Option<(u32, usize)> {
         if span.start < span.end {
-            Some((char_at(self.bytes, span.start), char_len(self.bytes[span.start])))
+            let (code, next) = char_at(self.bytes, span.start);
+            Some((code, next - span.start))
         } else {
             None
         }
@@ -207,8 +211,12 @@ pub impl<'a> Text for Utf8Text<'a> as Utf8TextText {
 
     fn position<P: Predicate>(&self, span: Span, predicate: &P) -> usize {
         let mut at = span.start;
-        while at < span.end && !predicate.test(char_at(self.bytes, at)) {
-            at += char_len(self.bytes[at]);
+        while at < span.end {
+            let (code, next) = char_at(self.bytes, at);
+            if predicate.test(code) {
+                return at - span.start;
+            }
+            at = next;
         }
         at - span.start
     }
