@@ -82,13 +82,13 @@ fn width_at(bytes: &[u8], at: usize) -> usize
 }
 
 // Bytes that `skip_windows` looks at together.
-const WINDOW: usize = 32;
+const WINDOW: usize = 64;
 
 // Whether a byte of the window from `at` on is no ASCII. With no way out of the loop it is compiled to a few vector
 // operations.
 fn window_is_wide(bytes: &[u8], at: usize) -> bool
-    requires { ⌜ at + 32 ≤ length (now bytes) ⌝ }
-    ensures { λ r. ⌜ (r ≡ false → (k : ℕ) → at ≤ k → k < at + 32 → getD (now (bytes .entry)) k 0 < 0x80) ⌝ }
+    requires { ⌜ at + 64 ≤ length (now bytes) ⌝ }
+    ensures { λ r. ⌜ (r ≡ false → (k : ℕ) → at ≤ k → k < at + 64 → getD (now (bytes .entry)) k 0 < 0x80) ⌝ }
 {
     let mut wide = false;
     for i in at..at + WINDOW {
