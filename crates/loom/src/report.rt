@@ -39,7 +39,11 @@ pub impl fmt::Display for Verdict as VerdictDisplay {
     fn fmt<W: fmt::Write>(&self, f: &mut fmt::Formatter<W>) -> fmt::Result {
         match self {
             Verdict::Accepted(counts) => {
-                let Counts { bytes, items, lines } = *counts;
+                let Counts {
+                    bytes,
+                    items,
+                    lines,
+                } = *counts;
                 write!(f, "accepted: bytes {bytes}, items {items}, lines {lines}")
             }
             Verdict::Refused(refusal) => {

@@ -134,6 +134,7 @@ item-on cs s e c d w h = ⊎-elim ahead stop (cases-lt s e)
   where
     stop : e ≤ s → On cs s e c
     stop k = let x : Some c ≡ None = h ∙ ap first (cut-end cs s e k) in absurd (let z : _≡_ {A = ℕ} 0 1 = cc in omega arith)
+
     ahead : s < e → On cs s e c
     ahead k =
         let t = cut-step cs s e d w k in

@@ -71,17 +71,17 @@ module _ (cs : List Cell) (e : ℕ) (solid : Solid cs) where
   matched-within (t ∷ ts) s w h =
       ⊎-elim
       (λ k.
-          let p = cut-step cs s e solid w k in
-          let m : matched (p .cell ∷ p .rest) (t ∷ ts) ≡ compared.Ok = ap (λ l. matched l (t ∷ ts)) (sym (p .is)) ∙ h in
-          ⊎-elim
-          (λ b.
-              let on : matched (cut cs (s + p .cell .1) e) ts ≡ compared.Ok = ap (λ l. matched l ts) (p .next) ∙ sym (matched-same (p .cell) t (p .rest) ts b) ∙ m in
-              let r = matched-within ts (s + p .cell .1) (p .within) on in
-              let wide = same-parts (p .cell) t b .1 in
-              let sum : s + p .cell .1 + total ts ≡ s + (t .1 + total ts) = omega arith in
-              subst (λ x. Within cs x e) sum r)
-          (λ b. absurd (error≢ok (sym (matched-other (p .cell) t (p .rest) ts b) ∙ m)))
-          (cases-bool (same (p .cell) t)))
+      let p = cut-step cs s e solid w k in
+      let m : matched (p .cell ∷ p .rest) (t ∷ ts) ≡ compared.Ok = ap (λ l. matched l (t ∷ ts)) (sym (p .is)) ∙ h in
+      ⊎-elim
+      (λ b.
+      let on : matched (cut cs (s + p .cell .1) e) ts ≡ compared.Ok = ap (λ l. matched l ts) (p .next) ∙ sym (matched-same (p .cell) t (p .rest) ts b) ∙ m in
+      let r = matched-within ts (s + p .cell .1) (p .within) on in
+      let wide = same-parts (p .cell) t b .1 in
+      let sum : s + p .cell .1 + total ts ≡ s + (t .1 + total ts) = omega arith in
+      subst (λ x. Within cs x e) sum r)
+      (λ b. absurd (error≢ok (sym (matched-other (p .cell) t (p .rest) ts b) ∙ m)))
+      (cases-bool (same (p .cell) t)))
       (λ k. let z : compared.Incomplete ≡ compared.Ok = sym (ap (λ l. matched l (t ∷ ts)) (cut-end cs s e k)) ∙ h in absurd (false≢true (ap begins z)))
       (cases-lt s e)
 
@@ -134,9 +134,9 @@ reach-on cells spelt s e out at here c on b =
       start = omega arith;
       within = on .within;
       so-far =
-        sym (further-further (at - s) (c .1) (at + c .1 - s) (found (cut cells (at + c .1) e) spelt) sum)
-        ∙ ap (further (at - s)) (sym (ap (λ l. found l spelt) (on .cuts) ∙ found-on c (cut cells (at + c .1) e) spelt past))
-        ∙ here .so-far;
+          sym (further-further (at - s) (c .1) (at + c .1 - s) (found (cut cells (at + c .1) e) spelt) sum)
+          ∙ ap (further (at - s)) (sym (ap (λ l. found l spelt) (on .cuts) ∙ found-on c (cut cells (at + c .1) e) spelt past))
+          ∙ here .so-far;
     }
 
 module _ (cells spelt : List Cell) (s e : ℕ) (out : Option ℕ) (at : ℕ) (here : Reached cells spelt s e out at) where
@@ -145,8 +145,8 @@ module _ (cells spelt : List Cell) (s e : ℕ) (out : Option ℕ) (at : ℕ) (he
   reach-next code u solid f k =
       let t = starts code spelt f in
       subst (Reached cells spelt s e out) (ap (λ u. at + u) (sym k)) (along (is code) cells e solid (Reached cells spelt s e out) (cut cells at e) at refl (here .within) here (λ x c on b r.
-          let past : begins (matched (cut cells x e) spelt) ≡ false = ap (λ l. begins (matched l spelt)) (on .cuts) ∙ ap (λ m. begins (matched (c ∷ cut cells (x + c .1) e) m)) (t .2) ∙ ap begins (matched-other c (t .0) _ (t .1) (and-left (eqb (c .0) (t .0 .0)) _ (ap (λ n. eqb (c .0) n) (sym (t .3)) ∙ b))) in
-          reach-on cells spelt s e out x r c on past))
+      let past : begins (matched (cut cells x e) spelt) ≡ false = ap (λ l. begins (matched l spelt)) (on .cuts) ∙ ap (λ m. begins (matched (c ∷ cut cells (x + c .1) e) m)) (t .2) ∙ ap begins (matched-other c (t .0) _ (t .1) (and-left (eqb (c .0) (t .0 .0)) _ (ap (λ n. eqb (c .0) n) (sym (t .3)) ∙ b))) in
+      reach-on cells spelt s e out x r c on past))
 
   -- the tag is here, and lies inside the span
   pub found-now : begins (matched (cut cells at e) spelt) ≡ true → Some (at - s) ≡ out

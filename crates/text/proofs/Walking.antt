@@ -47,9 +47,9 @@ module _ (p : ℕ → Bool) (cs : List Cell) (e : ℕ) (solid : Solid cs) where
       ⊎-elim
       (λ b. subst P (sym (add-zero s) ∙ ap (λ u. s + u) (sym (cond-true (p (c .0)) 0 (c .1 + until p l) b))) h)
       (λ b.
-          let n = next c l s z w in
-          let sum : s + c .1 + until p l ≡ s + (c .1 + until p l) = omega arith in
-          subst P (sum ∙ ap (λ u. s + u) (sym (cond-false (p (c .0)) 0 (c .1 + until p l) b))) (along P l (s + c .1) (n .1) (n .0 .within) (k s c (n .0) b h) k))
+      let n = next c l s z w in
+      let sum : s + c .1 + until p l ≡ s + (c .1 + until p l) = omega arith in
+      subst P (sum ∙ ap (λ u. s + u) (sym (cond-false (p (c .0)) 0 (c .1 + until p l) b))) (along P l (s + c .1) (n .1) (n .0 .within) (k s c (n .0) b h) k))
       (cases-bool (p (c .0)))
 
   pub until-within : (s u : ℕ) → Within cs s e → u ≡ until p (cut cs s e) → Within cs (s + u) e
@@ -62,15 +62,15 @@ module _ (p : ℕ → Bool) (cs : List Cell) (e : ℕ) (solid : Solid cs) where
   meets (d ∷ l) s z w c h =
       ⊎-elim
       (λ b.
-          let u : until p (d ∷ l) ≡ 0 = cond-true _ _ _ b in
-          let k : Some c ≡ Some d = h ∙ ap (λ x. first (cut cs (s + x) e)) u ∙ ap (λ x. first (cut cs x e)) (add-zero s) ∙ ap first z in
-          let same : d ≡ c = cc in
-          ap (λ x. p (x .0)) (sym same) ∙ b)
+      let u : until p (d ∷ l) ≡ 0 = cond-true _ _ _ b in
+      let k : Some c ≡ Some d = h ∙ ap (λ x. first (cut cs (s + x) e)) u ∙ ap (λ x. first (cut cs x e)) (add-zero s) ∙ ap first z in
+      let same : d ≡ c = cc in
+      ap (λ x. p (x .0)) (sym same) ∙ b)
       (λ b.
-          let n = next d l s z w in
-          let u : until p (d ∷ l) ≡ d .1 + until p l = cond-false _ _ _ b in
-          let sum : s + (d .1 + until p l) ≡ s + d .1 + until p l = omega arith in
-          meets l (s + d .1) (n .1) (n .0 .within) c (h ∙ ap (λ x. first (cut cs (s + x) e)) u ∙ ap (λ x. first (cut cs x e)) sum))
+      let n = next d l s z w in
+      let u : until p (d ∷ l) ≡ d .1 + until p l = cond-false _ _ _ b in
+      let sum : s + (d .1 + until p l) ≡ s + d .1 + until p l = omega arith in
+      meets l (s + d .1) (n .1) (n .0 .within) c (h ∙ ap (λ x. first (cut cs (s + x) e)) u ∙ ap (λ x. first (cut cs x e)) sum))
       (cases-bool (p (d .0)))
 
   pub until-meets : (s u : ℕ) → Within cs s e → u ≡ until p (cut cs s e) → (c : Cell) → Some c ≡ first (cut cs (s + u) e) → p (c .0) ≡ true
@@ -86,8 +86,8 @@ module _ (p : ℕ → Bool) (cs : List Cell) (e : ℕ) (solid : Solid cs) where
   pub count-next : (all at count u : ℕ) → Counting all at count → u ≡ until p (cut cs at e) → Counting all (at + u) count
   count-next all at count u here k =
       subst (λ u. Counting all (at + u) count) (sym k) (along (λ x. Counting all x count) (cut cs at e) at refl (here .within) here (λ x c on b r.
-          let same : counted p (cut cs x e) ≡ counted p (cut cs (x + c .1) e) = ap (counted p) (on .cuts) ∙ cond-false _ _ _ b in
-          record { within = on .within; few = omega (arith, r .few); so-far = omega (arith, same, r .so-far) }))
+      let same : counted p (cut cs x e) ≡ counted p (cut cs (x + c .1) e) = ap (counted p) (on .cuts) ∙ cond-false _ _ _ b in
+      record { within = on .within; few = omega (arith, r .few); so-far = omega (arith, same, r .so-far) }))
 
   -- over that item
   pub count-on : (all at count : ℕ) (c : Cell) → Counting all at count → On cs at e c → p (c .0) ≡ true → Counting all (at + c .1) (count + 1)
@@ -181,9 +181,9 @@ module _ (lack : ℕ → Needed) (cells : List Cell) (s e : ℕ) (out : Result �
         start = omega arith;
         within = on .within;
         so-far =
-          sym (moved-moved (at - s) (c .1) (at + c .1 - s) (sliced lack (left - 1) (cut cells (at + c .1) e)) sum)
-          ∙ ap (moved (at - s)) (sym (ap (sliced lack left) (on .cuts) ∙ sliced-on lack left c (cut cells (at + c .1) e) h))
-          ∙ here .so-far;
+            sym (moved-moved (at - s) (c .1) (at + c .1 - s) (sliced lack (left - 1) (cut cells (at + c .1) e)) sum)
+            ∙ ap (moved (at - s)) (sym (ap (sliced lack left) (on .cuts) ∙ sliced-on lack left c (cut cells (at + c .1) e) h))
+            ∙ here .so-far;
       }
 
   pub slicing-done : left ≤ 0 → Ok (at - s) ≡ out

@@ -51,7 +51,9 @@ impl<'a> ByteTag<'a> {
     {
         match ByteTag::check(bytes) {
             Ok(_) => ByteTag { bytes },
-            Err(_) => ByteTag { bytes: &bytes[0..0] },
+            Err(_) => ByteTag {
+                bytes: &bytes[0..0],
+            },
         }
     }
 }
@@ -74,7 +76,9 @@ impl<'a> ByteText<'a> {
     {
         match ByteText::check(bytes) {
             Ok(_) => ByteText { bytes },
-            Err(_) => ByteText { bytes: &bytes[0..0] },
+            Err(_) => ByteText {
+                bytes: &bytes[0..0],
+            },
         }
     }
 }
@@ -136,6 +140,7 @@ pub fn find_byte(bytes: &[u8], byte: u8) -> usize
 
 pub impl<'a> Needle for ByteTag<'a> as ByteTagNeedle {
     ghost spelt = { λ t. singles (now (t .bytes)) };
+
     ghost short = { λ t. singles-short (now (t .bytes)) (t .few) };
 
     fn len(&self) -> usize {
@@ -155,8 +160,11 @@ pub impl<'a> Text for ByteText<'a> as ByteTextText {
     type Tag = ByteTag<'a>;
 
     ghost cells = { λ t. singles (now (t .bytes)) };
+
     ghost raw = { λ t. now (t .bytes) };
+
     ghost lawful = { λ t. singles-lawful (now (t .bytes)) (t .few) };
+
     ghost lack = { needed };
 
     fn len(&self) -> usize {

@@ -158,9 +158,18 @@ impl Refusal {
 pub impl fmt::Display for Refusal as RefusalDisplay {
     fn fmt<W: fmt::Write>(&self, f: &mut fmt::Formatter<W>) -> fmt::Result {
         match self {
-            Refusal::TextTooLong(len) => write!(f, "the text has {len} bytes, and a text may have at most 1048576"),
-            Refusal::Malformed(valid) => write!(f, "not well-formed UTF-8; the longest well-formed prefix has {valid} bytes"),
-            Refusal::TagTooLong(len) => write!(f, "the tag has {len} bytes, and a tag may have at most 32"),
+            Refusal::TextTooLong(len) => write!(
+                f,
+                "the text has {len} bytes, and a text may have at most 1048576"
+            ),
+            Refusal::Malformed(valid) => write!(
+                f,
+                "not well-formed UTF-8; the longest well-formed prefix has {valid} bytes"
+            ),
+            Refusal::TagTooLong(len) => write!(
+                f,
+                "the tag has {len} bytes, and a tag may have at most 32"
+            ),
         }
     }
 }
@@ -206,6 +215,7 @@ pub trait Text {
     type Tag: Needle + Drop;
 
     ghost cells: { Self → List Cell };
+
     ghost raw: { Self → List ℕ };
     // what each implementation proves of its items
     ghost lawful: { (t : Self) → Lawful (cells t) (raw t) };

@@ -33,14 +33,14 @@ pub fn find<T: Text>(text: &T, span: Span, tag: &T::Tag) -> Option<usize>
     let Some(code) = tag.first() else {
         return Some(0);
     };
-    let mut at = span.start;
+    let mut rest = span;
     loop {
-        at += text.position_of(Span { start: at, end: span.end }, code);
-        if is_ok(text.compare(Span { start: at, end: span.end }, tag)) {
-            return Some(at - span.start);
+        rest.start += text.position_of(rest, code);
+        if is_ok(text.compare(rest, tag)) {
+            return Some(rest.start - span.start);
         }
-        match text.item(Span { start: at, end: span.end }) {
-            Some((_, width)) => at += width,
+        match text.item(rest) {
+            Some((_, width)) => rest.start += width,
             None => return None,
         }
     }
@@ -52,7 +52,10 @@ pub fn whole<T: Text>(text: &T) -> Span
     ensures within { λ r. ⌜ Within (T·Text .cells (now (text .entry))) (r .start) (r .end) ⌝ }
     ensures items { λ r. ⌜ cut (T·Text .cells (now (text .entry))) (r .start) (r .end) ≡ T·Text .cells (now (text .entry)) ⌝ }
 {
-    Span { start: 0, end: text.len() }
+    Span {
+        start: 0,
+        end: text.len(),
+    }
 }
 
 // How many items the text has.

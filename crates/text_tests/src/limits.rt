@@ -37,9 +37,15 @@ fn texts(rt: LibcRuntime) -> Result<(), Fail> {
 #[test]
 fn length_comes_before_form(rt: LibcRuntime) -> Result<(), Fail> {
     let bytes = Vec::from_elem(rt.alloc(), 0xFF, 1_048_577)?;
-    check_eq(Utf8Text::check(bytes.as_slice()), Err(Refusal::TextTooLong(1_048_577)))?;
+    check_eq(
+        Utf8Text::check(bytes.as_slice()),
+        Err(Refusal::TextTooLong(1_048_577)),
+    )?;
     let bytes = Vec::from_elem(rt.alloc(), 0xFF, 33)?;
-    check_eq(Utf8Tag::check(bytes.as_slice()), Err(Refusal::TagTooLong(33)))?;
+    check_eq(
+        Utf8Tag::check(bytes.as_slice()),
+        Err(Refusal::TagTooLong(33)),
+    )?;
     check_eq(Utf8Tag::check(&[0xFF]), Err(Refusal::Malformed(0)))
 }
 
@@ -65,9 +71,21 @@ fn tags(rt: LibcRuntime) -> Result<(), Fail> {
 fn refusals_by_number_and_in_words(rt: LibcRuntime) -> Result<(), Fail> {
     let heap = rt.alloc();
     let told = [
-        (Refusal::TextTooLong(1_048_577), 1u32, "the text has 1048577 bytes, and a text may have at most 1048576"),
-        (Refusal::Malformed(3), 2, "not well-formed UTF-8; the longest well-formed prefix has 3 bytes"),
-        (Refusal::TagTooLong(33), 3, "the tag has 33 bytes, and a tag may have at most 32"),
+        (
+            Refusal::TextTooLong(1_048_577),
+            1u32,
+            "the text has 1048577 bytes, and a text may have at most 1048576",
+        ),
+        (
+            Refusal::Malformed(3),
+            2,
+            "not well-formed UTF-8; the longest well-formed prefix has 3 bytes",
+        ),
+        (
+            Refusal::TagTooLong(33),
+            3,
+            "the tag has 33 bytes, and a tag may have at most 32",
+        ),
     ];
     for (refusal, number, words) in told {
         check_eq(refusal.number(), number)?;

@@ -33,8 +33,18 @@ const COMPARED: [(&str, &str, CompareResult, Option<usize>); 14] = [
     ("é€", "€", CompareResult::Error, Some(2)),
     ("é", "é€", CompareResult::Incomplete, None),
     ("ééé€", "é€", CompareResult::Error, Some(4)),
-    ("0123456789012345678901234567890123456789x", "x", CompareResult::Error, Some(40)),
-    ("0123456789012345678901234567890123456789x", "9x", CompareResult::Error, Some(39)),
+    (
+        "0123456789012345678901234567890123456789x",
+        "x",
+        CompareResult::Error,
+        Some(40),
+    ),
+    (
+        "0123456789012345678901234567890123456789x",
+        "9x",
+        CompareResult::Error,
+        Some(39),
+    ),
 ];
 
 #[test]
@@ -108,7 +118,12 @@ fn items_and_boundaries() -> Result<(), Fail> {
     let chars = Utf8Text::new(&[0xE2, 0x82, 0xAC]);
     check_eq(chars.item(text::whole(&chars)), Some((0x20AC, 3)))?;
     check_eq(text::count_items(&chars), 1)?;
-    check(chars.is_boundary(0) && !chars.is_boundary(1) && !chars.is_boundary(2) && chars.is_boundary(3))?;
+    check(
+        chars.is_boundary(0)
+            && !chars.is_boundary(1)
+            && !chars.is_boundary(2)
+            && chars.is_boundary(3),
+    )?;
     check(!chars.is_boundary(4))?;
     let chars = Utf8Text::new("🧵".as_bytes());
     check_eq(chars.item(text::whole(&chars)), Some((0x1F9F5, 4)))?;
@@ -119,7 +134,14 @@ fn items_and_boundaries() -> Result<(), Fail> {
 
 #[test]
 fn lines_are_the_pieces_between_line_ends() -> Result<(), Fail> {
-    for (text, lines) in [("", 1usize), ("\n", 2), ("a\n", 2), ("a\nb", 2), ("\n\n\n", 4), ("é\r\n€", 2)] {
+    for (text, lines) in [
+        ("", 1usize),
+        ("\n", 2),
+        ("a\n", 2),
+        ("a\nb", 2),
+        ("\n\n\n", 4),
+        ("é\r\n€", 2),
+    ] {
         check_eq(text::count_lines(&ByteText::new(text.as_bytes())), lines)?;
         check_eq(text::count_lines(&Utf8Text::new(text.as_bytes())), lines)?;
     }

@@ -95,15 +95,15 @@ differ (x ∷ xs) (y ∷ ys) c t e f h =
     let ff = char-fits (y ∷ ys) t f in
     ⊎-elim
     (λ q.
-        let r = read x xs c e in
-        let s = read y ys t f in
-        let is : Some (r .row) ≡ Some (s .row) = sym (r .is) ∙ ap (row-of rows) q ∙ s .is in
-        let rows-same : r .row ≡ s .row = cc in
-        let w : c .1 ≡ t .1 = r .width ∙ ap (λ z. suc (z .tails)) rows-same ∙ sym (s .width) in
-        apart (c .1) (x ∷ xs) (y ∷ ys) (ef .1) (omega arith) (λ z.
-            let g : Some t ≡ Some c = sym f ∙ char-local (x ∷ xs) (y ∷ ys) c e z in
-            let v : t ≡ c = cc in
-            both-ways (same c t) h (ap (same c) v ∙ same-self c)))
+    let r = read x xs c e in
+    let s = read y ys t f in
+    let is : Some (r .row) ≡ Some (s .row) = sym (r .is) ∙ ap (row-of rows) q ∙ s .is in
+    let rows-same : r .row ≡ s .row = cc in
+    let w : c .1 ≡ t .1 = r .width ∙ ap (λ z. suc (z .tails)) rows-same ∙ sym (s .width) in
+    apart (c .1) (x ∷ xs) (y ∷ ys) (ef .1) (omega arith) (λ z.
+    let g : Some t ≡ Some c = sym f ∙ char-local (x ∷ xs) (y ∷ ys) c e z in
+    let v : t ≡ c = cc in
+    both-ways (same c t) h (ap (same c) v ∙ same-self c)))
     (λ q. apart 1 (x ∷ xs) (y ∷ ys) (omega arith) (omega arith) (λ z. q (same-head x y [] [] z .0)))
     (cases-eq x y)
 
@@ -121,12 +121,12 @@ matched-by (t ∷ ts) (c ∷ cs) ys xs f e l m =
     let ql = length-drop (c .1) xs in
     ⊎-elim
     (λ z.
-        let v : c ≡ t = same-from c t z in
-        let w : c .1 ≡ t .1 = ap (λ k. k .1) v in
-        skip-same (c .1) xs ys (qf .1) (omega arith) (char-alike xs ys c (q .0) (p .0 ∙ ap Some (sym v)))
-        ∙ ap (λ n. matched (singles (drop (c .1) xs)) (singles (drop n ys))) w
-        ∙ matched-by ts cs (drop (t .1) ys) (drop (c .1) xs) (p .1) (q .1) (omega arith) (omega arith)
-        ∙ sym (ap (λ b. cond b (matched cs ts) compared.Error) z))
+    let v : c ≡ t = same-from c t z in
+    let w : c .1 ≡ t .1 = ap (λ k. k .1) v in
+    skip-same (c .1) xs ys (qf .1) (omega arith) (char-alike xs ys c (q .0) (p .0 ∙ ap Some (sym v)))
+    ∙ ap (λ n. matched (singles (drop (c .1) xs)) (singles (drop n ys))) w
+    ∙ matched-by ts cs (drop (t .1) ys) (drop (c .1) xs) (p .1) (q .1) (omega arith) (omega arith)
+    ∙ sym (ap (λ b. cond b (matched cs ts) compared.Error) z))
     (λ z. differ xs ys c t (q .0) (p .0) z ∙ sym (ap (λ b. cond b (matched cs ts) compared.Error) z))
     (cases-bool (same c t))
 
@@ -164,8 +164,8 @@ wide-code b bs c e h =
     ⊎-elim
     (λ z. absurd (omega (arith, z, more)))
     (λ k.
-        let high = wide-glue (r .row .tails - 1) (r .row .from) (r .row .to) (b - r .row .base) bs (ap (λ n. follow n (r .row .from) (r .row .to) bs) (sym more) ∙ r .follows) (s .from) (subst (λ n. least n ≤ (b - r .row .base) * 64 + (r .row .from - 0x80)) more k) in
-        subst (λ x. 0x80 ≤ x) (ap (λ n. glue n (b - r .row .base) bs) (sym more) ∙ sym (r .code)) high)
+    let high = wide-glue (r .row .tails - 1) (r .row .from) (r .row .to) (b - r .row .base) bs (ap (λ n. follow n (r .row .from) (r .row .to) bs) (sym more) ∙ r .follows) (s .from) (subst (λ n. least n ≤ (b - r .row .base) * 64 + (r .row .from - 0x80)) more k) in
+    subst (λ x. 0x80 ≤ x) (ap (λ n. glue n (b - r .row .base) bs) (sym more) ∙ sym (r .code)) high)
     (s .high)
 
 wide-bytes : (b : ℕ) (bs : List ℕ) (c : Cell) → char (b ∷ bs) ≡ Some c → 0x80 ≤ b → (k : ℕ) → k < c .1 → 0x80 ≤ getD (b ∷ bs) k 0
@@ -187,14 +187,14 @@ until-by code h (c ∷ cs) (b ∷ bs) e t =
     let ih = until-by code h cs (drop (c .1) (b ∷ bs)) (p .1) (omega arith) in
     ⊎-elim
     (λ k.
-        let is-c : Some c ≡ Some (b, 1) = sym (p .0) ∙ char-ascii b bs k in
-        let same-c : c ≡ (b, 1) = cc in
-        let one : drop (c .1) (b ∷ bs) ≡ bs = ap (λ x. drop (x .1) (b ∷ bs)) same-c in
-        ap (λ n. cond (eqb b code) 0 (1 + n)) (ap (λ l. until (is code) (singles l)) (sym one) ∙ ih) ∙ ap (λ x. cond (eqb (x .0) code) 0 (x .1 + until (is code) cs)) (sym same-c))
+    let is-c : Some c ≡ Some (b, 1) = sym (p .0) ∙ char-ascii b bs k in
+    let same-c : c ≡ (b, 1) = cc in
+    let one : drop (c .1) (b ∷ bs) ≡ bs = ap (λ x. drop (x .1) (b ∷ bs)) same-c in
+    ap (λ n. cond (eqb b code) 0 (1 + n)) (ap (λ l. until (is code) (singles l)) (sym one) ∙ ih) ∙ ap (λ x. cond (eqb (x .0) code) 0 (x .1 + until (is code) cs)) (sym same-c))
     (λ k.
-        let far = bytes-skip (is code) (b ∷ bs) (c .1) 0 (omega arith) (λ i _ m. ne-eqb _ _ (λ z. omega (arith, wide-bytes b bs c (p .0) k i (omega arith)))) in
-        let not : is code (c .0) ≡ false = ne-eqb _ _ (λ z. omega (arith, wide-code b bs c (p .0) k)) in
-        far ∙ ap (λ n. c .1 + until (is code) (singles (drop n (b ∷ bs)))) (zero-add (c .1)) ∙ ap (λ n. c .1 + n) ih ∙ sym (cond-false _ _ _ not))
+    let far = bytes-skip (is code) (b ∷ bs) (c .1) 0 (omega arith) (λ i _ m. ne-eqb _ _ (λ z. omega (arith, wide-bytes b bs c (p .0) k i (omega arith)))) in
+    let not : is code (c .0) ≡ false = ne-eqb _ _ (λ z. omega (arith, wide-code b bs c (p .0) k)) in
+    far ∙ ap (λ n. c .1 + until (is code) (singles (drop n (b ∷ bs)))) (zero-add (c .1)) ∙ ap (λ n. c .1 + n) ih ∙ sym (cond-false _ _ _ not))
     (cases-lt b 0x80)
 
 pub until-ascii : (code : ℕ) (bs : List ℕ) → code < 0x80 → WellFormed bs → until (is code) (singles bs) ≡ until (is code) (scan bs)

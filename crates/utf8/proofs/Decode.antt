@@ -66,12 +66,12 @@ starts-by bs at inner c is =
       lead = s .lead;
       fits = omega arith;
       tails = λ k h m.
-        let back : at + 1 + (k - (at + 1)) ≡ k = omega arith in
-        subst (λ x. 0x80 ≤ x) (getD-drop (at + 1) bs (k - (at + 1)) 0 ∙ ap (λ i. getD bs i 0) back) (range (k - (at + 1)) (omega arith) .0);
+          let back : at + 1 + (k - (at + 1)) ≡ k = omega arith in
+          subst (λ x. 0x80 ≤ x) (getD-drop (at + 1) bs (k - (at + 1)) 0 ∙ ap (λ i. getD bs i 0) back) (range (k - (at + 1)) (omega arith) .0);
       gives =
-        ap (λ x. Some (x, suc (tails-of b))) (sym (r .code ∙ ap (λ m. glue m (b - r .row .base) (drop (at + 1) bs)) n ∙ ap (λ z. glue (tails-of b) (b - z) (drop (at + 1) bs)) base))
-        ∙ ap (λ w. Some (c .0, w)) (sym (r .width ∙ ap suc n))
-        ∙ sym is;
+          ap (λ x. Some (x, suc (tails-of b))) (sym (r .code ∙ ap (λ m. glue m (b - r .row .base) (drop (at + 1) bs)) n ∙ ap (λ z. glue (tails-of b) (b - z) (drop (at + 1) bs)) base))
+          ∙ ap (λ w. Some (c .0, w)) (sym (r .width ∙ ap suc n))
+          ∙ sym is;
     }
 
 pub starts-at : (bs : List ℕ) (at : ℕ) → isSome (char (drop at bs)) ≡ true → Starts-at bs at

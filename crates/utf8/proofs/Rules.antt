@@ -183,8 +183,7 @@ longest bs =
     let n = total (scan bs) in
     let le = scan-le (scan bs) bs refl in
     let b = boundary-total (scan bs) (solid-scan bs) in
-    let well : WellFormed (take n bs) = ap total (sym (before-scan (scan bs) bs n refl b)) ∙ total-before (scan bs) n b ∙ sym (length-take-le n bs le) in
-    (
+    let well : WellFormed (take n bs) = ap total (sym (before-scan (scan bs) bs n refl b)) ∙ total-before (scan bs) n b ∙ sym (length-take-le n bs le) in (
       le,
       well-utf8 (take n bs) well,
       λ m h u. let l = length-take-le m bs h in let r = prefix-le (scan (take m bs)) bs m h refl in omega (arith, utf8-well (take m bs) u),

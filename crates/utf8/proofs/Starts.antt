@@ -92,10 +92,10 @@ lead-at-drop bs w n h k =
     ⊎-elim
     (λ a. cond-true _ _ _ (lt-ltb (n - w) (length (drop w bs)) (omega arith)) ∙ ap leads same ∙ sym (cond-true _ _ _ (lt-ltb n (length bs) a)))
     (λ a.
-        cond-false _ _ _ (le-ltb (n - w) (length (drop w bs)) (omega arith)) ∙ ⊎-elim
-        (λ q. eq-eqb (n - w) (length (drop w bs)) (omega arith) ∙ sym (eq-eqb n (length bs) q))
-        (λ q. ne-eqb (n - w) (length (drop w bs)) (λ z. q (omega arith)) ∙ sym (ne-eqb n (length bs) q))
-        (cases-eq n (length bs)) ∙ sym (cond-false _ _ _ (le-ltb n (length bs) a)))
+    cond-false _ _ _ (le-ltb (n - w) (length (drop w bs)) (omega arith)) ∙ ⊎-elim
+    (λ q. eq-eqb (n - w) (length (drop w bs)) (omega arith) ∙ sym (eq-eqb n (length bs) q))
+    (λ q. ne-eqb (n - w) (length (drop w bs)) (λ z. q (omega arith)) ∙ sym (ne-eqb n (length bs) q))
+    (cases-eq n (length bs)) ∙ sym (cond-false _ _ _ (le-ltb n (length bs) a)))
     (cases-lt n (length bs))
 
 pub boundary-scan : (cs : List Cell) (bs : List ℕ) (n : ℕ) → scan bs ≡ cs → total cs ≡ length bs → boundary cs n ≡ lead-at bs n
@@ -145,6 +145,7 @@ char-local (x ∷ xs) ys c e h = go ys (sym (ap (λ n. take n (x ∷ xs)) (r .wi
   where
     r : Read x xs c
     r = read x xs c e
+
     go : (ys : List ℕ) → x ∷ take (r .row .tails) xs ≡ take (suc (r .row .tails)) ys → char ys ≡ Some c
     go [] k = absurd (nil≢cons x (take (r .row .tails) xs) (sym k))
     go (y ∷ ys) k =

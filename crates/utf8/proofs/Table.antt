@@ -163,10 +163,10 @@ listed-row b r [] e = absurd (none≢some r e)
 listed-row b r (x ∷ rs) e =
     ⊎-elim
     (λ k.
-        let is : Some x ≡ Some r = sym (cond-true (inside (x .low) (x .high) b) (Some x) (row-of rs b) k) ∙ e in
-        let s : r ≡ x = cc in
-        (List·Memᴰ·head s, ap (λ y. inside (y .low) (y .high) b) s ∙ k))
+    let is : Some x ≡ Some r = sym (cond-true (inside (x .low) (x .high) b) (Some x) (row-of rs b) k) ∙ e in
+    let s : r ≡ x = cc in
+    (List·Memᴰ·head s, ap (λ y. inside (y .low) (y .high) b) s ∙ k))
     (λ k.
-        let p = listed-row b r rs (sym (cond-false (inside (x .low) (x .high) b) (Some x) (row-of rs b) k) ∙ e) in
-        (List·Memᴰ·tail (p .0), p .1))
+    let p = listed-row b r rs (sym (cond-false (inside (x .low) (x .high) b) (Some x) (row-of rs b) k) ∙ e) in
+    (List·Memᴰ·tail (p .0), p .1))
     (cases-bool (inside (x .low) (x .high) b))

@@ -41,6 +41,7 @@ read-by b bs c r k e = ⊎-elim there missing (cases-bool (follow (r .tails) (r 
         let is : Some (glue (r .tails) (b - r .base) bs, suc (r .tails)) ≡ Some c = sym (cond-true _ _ _ f) ∙ e in
         let s : (glue (r .tails) (b - r .base) bs, suc (r .tails)) ≡ c = cc in
         record { row = r; is = k; follows = f; code = sym (ap (λ p. p .0) s); width = sym (ap (λ p. p .1) s) }
+
     missing : follow (r .tails) (r .from) (r .to) bs ≡ false → Read b bs c
     missing f = absurd (none≢some c (sym (cond-false _ _ _ f) ∙ e))
 

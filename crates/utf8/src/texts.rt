@@ -74,7 +74,9 @@ impl<'a> Utf8Tag<'a> {
     {
         match Utf8Tag::check(bytes) {
             Ok(_) => Utf8Tag { bytes },
-            Err(_) => Utf8Tag { bytes: &bytes[0..0] },
+            Err(_) => Utf8Tag {
+                bytes: &bytes[0..0],
+            },
         }
     }
 }
@@ -100,7 +102,9 @@ impl<'a> Utf8Text<'a> {
     {
         match Utf8Text::check(bytes) {
             Ok(_) => Utf8Text { bytes },
-            Err(_) => Utf8Text { bytes: &bytes[0..0] },
+            Err(_) => Utf8Text {
+                bytes: &bytes[0..0],
+            },
         }
     }
 }
@@ -140,7 +144,10 @@ fn char_at(bytes: &[u8], at: usize) -> (u32, usize)
         return (((lead - 0xE0) as u32 * 64 + second) * 64 + third, at + 3);
     }
     let fourth = (bytes[at + 3] - 0x80) as u32;
-    ((((lead - 0xF0) as u32 * 64 + second) * 64 + third) * 64 + fourth, at + 4)
+    (
+        (((lead - 0xF0) as u32 * 64 + second) * 64 + third) * 64 + fourth,
+        at + 4,
+    )
 }
 
 // How bytes compare with a tag's bytes. Where both are well-formed, comparing bytes is comparing code points.
@@ -153,6 +160,7 @@ pub fn compare_chars(text: &[u8], tag: &[u8]) -> CompareResult
 
 pub impl<'a> Needle for Utf8Tag<'a> as Utf8TagNeedle {
     ghost spelt = { λ t. scan (now (t .bytes)) };
+
     ghost short = { λ t. scan-short (now (t .bytes)) (t .well) (t .few) };
 
     fn len(&self) -> usize {
@@ -173,8 +181,11 @@ pub impl<'a> Text for Utf8Text<'a> as Utf8TextText {
     type Tag = Utf8Tag<'a>;
 
     ghost cells = { λ t. scan (now (t .bytes)) };
+
     ghost raw = { λ t. now (t .bytes) };
+
     ghost lawful = { λ t. scan-lawful (now (t .bytes)) (t .well) (t .few) };
+
     ghost lack = { unknown };
 
     fn len(&self) -> usize {

@@ -1,5 +1,5 @@
 use Prim.Native.Nat.{_+_, _≤_}
-use mathlib.Core.Path.{_≡_, sym, ap, subst, _∙_}
+use mathlib.Core.Path.{_≡_, refl, sym, ap, subst, _∙_}
 use mathlib.Core.List.{[]}
 use native.Mathlib.Nat.{add-zero}
 use native.Mathlib.Omega.{arith}
@@ -9,7 +9,7 @@ use Rattle.text.proofs.Cuts.{On, item-on, item-end}
 use Rattle.text.proofs.Matching.{Reached, reach-start, reach-on, reach-next, starts-not, found-empty, found-now, found-inside, found-nowhere}
 use Rattle.text.proofs.search.find.Given as given
 use Rattle.text.proofs.search.find.Needs as need
-use Rattle.text.proofs.search.find.Needs.{After-position-of-at, In-Some-item}
+use Rattle.text.proofs.search.find.Needs.{After-position-of, In-Some-item}
 
 pub returns-in-rest : need.returns-in-rest
 returns-in-rest g c =
@@ -21,47 +21,55 @@ returns-in-rest g c =
     record {
       value = found-empty (cut cells s e) ∙ ap (found (cut cells s e)) (sym none);
       inside =
-        subst (λ l. Within cells (s + 0) (s + 0 + total l) × (s + 0 + total l ≤ e)) (sym none)
-        (subst (λ x. Within cells x (x + 0) × (x + 0 ≤ e)) (sym (add-zero s)) w);
+          subst (λ l. Within cells (s + 0) (s + 0 + total l) × (s + 0 + total l ≤ e)) (sym none)
+          (subst (λ x. Within cells x (x + 0) × (x + 0 ≤ e)) (sym (add-zero s)) w);
     }
 
 pub loop-span-holds : need.loop-span-holds
-loop-span-holds g c = reach-start _ _ _ _ (c .pre)
+loop-span-holds g c = (refl, reach-start _ _ _ _ (c .pre))
 
-next : (g : given.Over) (c : After-position-of-at g) → Reached (g .T·Text .cells (c .args .text .now)) (g .Tag·Needle .spelt (c .args .tag .now)) (c .args .span .start) (c .args .span .end) (found (cut (g .T·Text .cells (c .args .text .now)) (c .args .span .start) (c .args .span .end)) (g .Tag·Needle .spelt (c .args .tag .now))) (c .loop-span .at + c .position-of-at .result)
-next g c = reach-next _ _ _ _ _ _ (c .loop-span .inv) (c .in-Some .code) _ (g .T·Text .lawful (c .args .text .now) .solid) (c .in-Some .ensures tt) (c .position-of-at .ensures)
+next : (g : given.Over) (c : After-position-of g) → Reached (g .T·Text .cells (c .args .text .now)) (g .Tag·Needle .spelt (c .args .tag .now)) (c .args .span .start) (c .loop-span .rest .end) (found (cut (g .T·Text .cells (c .args .text .now)) (c .args .span .start) (c .args .span .end)) (g .Tag·Needle .spelt (c .args .tag .now))) (c .loop-span .rest .start + c .position-of .result)
+next g c = reach-next _ _ _ _ _ _ (c .loop-span .inv .1) (c .in-Some .code) _ (g .T·Text .lawful (c .args .text .now) .solid) (c .in-Some .ensures tt) (c .position-of .ensures)
 
-pub add-at : need.add-at
-add-at g c = omega (arith, next g (need.at·add-at g c .After-position-of-at) .within .0)
+step : (g : given.Over) (c : In-Some-item g) → On (g .T·Text .cells (c .args .text .now)) (c .loop-span .rest .start + c .position-of .result) (c .loop-span .rest .end) (c .in-Some-item .field-0-0, c .in-Some-item .width)
+step g c = item-on _ _ _ _ (g .T·Text .lawful (c .args .text .now) .solid) (reach-next _ _ _ _ _ _ (c .loop-span .inv .1) (c .in-Some .code) _ (g .T·Text .lawful (c .args .text .now) .solid) (c .in-Some .ensures tt) (c .position-of .ensures) .within) (c .in-Some-item .ensures tt)
+
+pub add-rest : need.add-rest
+add-rest g c = omega (arith, next g (need.at·add-rest g c .After-position-of) .within .0)
 
 pub compare-requires : need.compare-requires
-compare-requires g c κs = next g (need.at·compare-requires g c .After-position-of-at) .within
+compare-requires g c κs = next g (need.at·compare-requires g c .After-position-of) .within
 
 pub returns-then-is-ok : need.returns-then-is-ok
 returns-then-is-ok g c =
-    let here = next g (need.at·returns-then-is-ok g c .After-position-of-at) in
+    let here = next g (need.at·returns-then-is-ok g c .After-position-of) in
     let yes = ap begins (sym (c .compare .ensures)) ∙ sym (c .if-is-ok .ensures tt) in
-    record { value = found-now _ _ _ _ _ _ here yes; inside = found-inside _ _ _ _ _ _ here (g .T·Text .lawful (c .args .text .now) .solid) yes }
+    let inside = found-inside _ _ _ _ _ _ here (g .T·Text .lawful (c .args .text .now) .solid) yes in
+    record { value = found-now _ _ _ _ _ _ here yes; inside = (inside .0, omega (arith, inside .1, c .loop-span .inv .0)) }
 
 pub item-requires : need.item-requires
-item-requires g c κs = next g (need.at·item-requires g c .After-position-of-at) .within
+item-requires g c κs = next g (need.at·item-requires g c .After-position-of) .within
 
-step : (g : given.Over) (c : In-Some-item g) → On (g .T·Text .cells (c .args .text .now)) (c .loop-span .at + c .position-of-at .result) (c .args .span .end) (c .in-Some-item .field-0-0, c .in-Some-item .width)
-step g c = item-on _ _ _ _ (g .T·Text .lawful (c .args .text .now) .solid) (reach-next _ _ _ _ _ _ (c .loop-span .inv) (c .in-Some .code) _ (g .T·Text .lawful (c .args .text .now) .solid) (c .in-Some .ensures tt) (c .position-of-at .ensures) .within) (c .in-Some-item .ensures tt)
-
-pub add-at-in-Some-item : need.add-at-in-Some-item
-add-at-in-Some-item g c = omega (arith, step g (need.at·add-at-in-Some-item g c .In-Some-item) .fits)
+pub add-rest-in-Some-item : need.add-rest-in-Some-item
+add-rest-in-Some-item g c = omega (arith, step g (need.at·add-rest-in-Some-item g c .In-Some-item) .fits)
 
 pub loop-span-less : need.loop-span-less
 loop-span-less g c = let on = step g (need.at·loop-span-less g c .In-Some-item) in omega (arith, on .fits, on .wide)
 
 pub loop-span-again : need.loop-span-again
-loop-span-again g c =
-    reach-on _ _ _ _ _ _ (next g (need.at·loop-span-again g c .After-position-of-at)) _ (step g (need.at·loop-span-again g c .In-Some-item))
-    (ap begins (sym (c .compare .ensures)) ∙ sym (c .if-is-ok .ensures tt))
+loop-span-again g c = (
+  c .loop-span .inv .0,
+  reach-on _ _ _ _ _ _ (next g (need.at·loop-span-again g c .After-position-of)) _ (step g (need.at·loop-span-again g c .In-Some-item))
+      (ap begins (sym (c .compare .ensures)) ∙ sym (c .if-is-ok .ensures tt)),
+)
 
 pub returns-in-None : need.returns-in-None
 returns-in-None g c =
-    let here = next g (need.at·returns-in-None g c .After-position-of-at) in
+    let here = next g (need.at·returns-in-None g c .After-position-of) in
     let not = ap begins (sym (c .compare .ensures)) ∙ sym (c .if-is-ok .ensures tt) in
-    record { value = found-nowhere _ _ _ _ _ _ here (item-end (g .T·Text .cells (c .args .text .now)) (c .loop-span .at + c .position-of-at .result) (c .args .span .end) (c .in-None .ensures tt)) not; inside = tt }
+    record {
+      value =
+          found-nowhere _ _ _ _ _ _ here
+          (item-end (g .T·Text .cells (c .args .text .now)) (c .loop-span .rest .start + c .position-of .result) (c .loop-span .rest .end) (c .in-None .ensures tt)) not;
+      inside = tt;
+    }

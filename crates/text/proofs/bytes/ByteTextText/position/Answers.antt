@@ -17,8 +17,7 @@ loop-at-again g c =
     let bs = c .args .self .now .bytes .now in
     let at = c .loop-at .at in
     let end = c .args .span .end in
-    let on : On (singles bs) at end (getD bs at 0, 1) = item-on (singles bs) at end _ (solid-singles bs) (c .loop-at .inv .1) (first-singles bs at end (c .loop-at-test .taken) (within-singles _ _ _ (c .loop-at .inv .1))) in
-    (
+    let on : On (singles bs) at end (getD bs at 0, 1) = item-on (singles bs) at end _ (solid-singles bs) (c .loop-at .inv .1) (first-singles bs at end (c .loop-at-test .taken) (within-singles _ _ _ (c .loop-at .inv .1))) in (
       omega arith,
       on .within,
       walk-on (g .P·Predicate .holds (c .args .predicate .now)) (singles bs) (c .args .span .start) at end _ (c .loop-at .inv .2) (getD bs at 0, 1) on (c .loop-at .inv .0) (sym (c .if-not-test .ensures tt)),
@@ -31,8 +30,8 @@ returns g c =
     let end = c .args .span .end in
     let p = g .P·Predicate .holds (c .args .predicate .now) in
     elim (c .loop-at-test .came) [
-      then-loop-at-test·else-not-test w ↦
-        let on : On (singles bs) at end (getD bs at 0, 1) = item-on (singles bs) at end _ (solid-singles bs) (c .loop-at .inv .1) (first-singles bs at end (w .loop-at-test .taken) (within-singles _ _ _ (c .loop-at .inv .1))) in
-        walk-here p (singles bs) (c .args .span .start) at end _ (c .loop-at .inv .2) (getD bs at 0, 1) on (c .loop-at .inv .0) (sym (w .if-not-test .ensures tt))
-    | else-loop-at-test w ↦ walk-end p (singles bs) (c .args .span .start) at end _ (c .loop-at .inv .2) (cut-end (singles bs) at end (w .loop-at-test .left))
+      | then-loop-at-test·else-not-test w ↦
+          let on : On (singles bs) at end (getD bs at 0, 1) = item-on (singles bs) at end _ (solid-singles bs) (c .loop-at .inv .1) (first-singles bs at end (w .loop-at-test .taken) (within-singles _ _ _ (c .loop-at .inv .1))) in
+          walk-here p (singles bs) (c .args .span .start) at end _ (c .loop-at .inv .2) (getD bs at 0, 1) on (c .loop-at .inv .0) (sym (w .if-not-test .ensures tt))
+      | else-loop-at-test w ↦ walk-end p (singles bs) (c .args .span .start) at end _ (c .loop-at .inv .2) (cut-end (singles bs) at end (w .loop-at-test .left))
     ]
