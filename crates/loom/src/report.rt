@@ -1,9 +1,8 @@
 // What is told of bytes: as a byte text and as a UTF-8 text.
 ghost use denote.Ref.{now};
 ghost use mathlib.Core.Path.{_≡_};
-ghost use lib.ListN.{length};
 ghost use Rattle.text.specs.Answers.{byte-text-check};
-ghost use Rattle.text.specs.Cells.{total, singles};
+ghost use Rattle.text.specs.Cells.{singles};
 ghost use Rattle.text.specs.Search.{lines};
 ghost use Rattle.utf8.specs.Answers.{utf8-text-check};
 ghost use Rattle.utf8.specs.Octets.{scan};

@@ -1,15 +1,14 @@
 -- Spans of a list of items: one step on. Assumes nothing.
 use Prim.Native.Nat.{ℕ, zero, suc, _+_, _-_, _≤_, _<_}
 use mathlib.Core.Path.{_≡_, refl, sym, ap, subst, _∙_}
-use mathlib.Core.Bool.{Bool, true, false, _&&_}
-use mathlib.Core.List.{List, [], _∷_, _++_}
-use native.Mathlib.Nat.{add-zero, zero-add, suc-add, add-suc, sub-zero, sub-self}
+use mathlib.Core.Bool.{true, false, _&&_}
+use mathlib.Core.List.{List, [], _∷_}
+use native.Mathlib.Nat.{zero-add, sub-zero, sub-self}
 use native.Mathlib.Omega.{arith}
-use lib.Dec.{leb, ltb}
+use lib.Dec.{leb}
 use mathlib.Core.Logic.{⊎-elim}
-use Rattle.std.specs.declared.option.Option.{Option}
 use Rattle.std.specs.declared.option.Option.the-variants.{Some, None}
-use Rattle.std.proofs.shelf.Tests.{cases-lt, and-parts, and-from, leb-true, le-leb, true≢false, false≢true}
+use Rattle.std.proofs.shelf.Tests.{cases-lt, and-parts, and-from, leb-true, le-leb, false≢true}
 use Rattle.text.specs.Cells.{Cell, total, Solid, boundary, after, before, cut, Within, first}
 
 pub boundary-step : (c : Cell) (cs : List Cell) (n : ℕ) → 0 < n → boundary (c ∷ cs) n ≡ (leb (c .1) n && boundary cs (n - c .1))

@@ -8,16 +8,15 @@ use native.Mathlib.Nat.{add-zero, zero-add, sub-zero}
 use native.Mathlib.Omega.{arith}
 use lib.Dec.{leb, leb·zero, leb·suc-suc}
 use lib.ListN.{length, take, drop, getD}
-use Rattle.std.proofs.shelf.Tests.{cases-bool, cond-true, cond-false, le-leb, lt-leb, ne-eqb, eq-eqb}
-use Rattle.std.proofs.shelf.Lists.{drop-more, drop-all, drop-drop, length-take-le, length-drop}
+use Rattle.std.proofs.shelf.Tests.{cases-bool, cond-true, cond-false, le-leb, lt-leb}
+use Rattle.std.proofs.shelf.Lists.{drop-more, drop-all}
 use Rattle.std.specs.declared.option.Option.the-variants.{Some, None}
 use Rattle.std.specs.declared.result.Result.{Result}
 use Rattle.std.specs.declared.result.Result.the-variants.{Ok, Err}
 use Rattle.text.specs.declared.Needed.{Needed}
-use Rattle.text.specs.Cells.{Cell, total, Solid, before, cut, Within, first, singles}
-use Rattle.text.specs.Search.{until, is, sliced, counted}
-use Rattle.text.specs.Singles.{total-singles}
-use Rattle.text.proofs.Cuts.{On, item-on, before-step}
+use Rattle.text.specs.Cells.{Cell, total, Solid, cut, Within, first, singles}
+use Rattle.text.specs.Search.{until, sliced, counted}
+use Rattle.text.proofs.Cuts.{On, item-on}
 
 -- in the loop of a walk: it has come to byte `at` of the span from s to e
 module _ (p : ℕ → Bool) (cells : List Cell) (s at e whole : ℕ) (so-far : at - s + until p (cut cells at e) ≡ whole) where

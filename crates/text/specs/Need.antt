@@ -1,7 +1,6 @@
 -- How much more input is needed. Assumes nothing.
-use Prim.Native.Nat.{ℕ, zero, suc, _<_, zero-le, suc-le-suc}
+use Prim.Native.Nat.{ℕ, zero, suc, zero-le, suc-le-suc}
 use mathlib.Core.Bool.{Bool, true, false}
-use Rattle.std.specs.declared.num.NonZeroUsize.{NonZeroUsize}
 use Rattle.text.specs.declared.Needed.{Needed}
 use Rattle.text.specs.declared.Needed.the-variants.{Unknown, Size}
 

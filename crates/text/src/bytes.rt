@@ -2,7 +2,7 @@
 ghost use Prim.Native.Nat.{ℕ, _+_, _≤_, _<_};
 ghost use denote.Ref.{now};
 ghost use mathlib.Core.Path.{_≡_};
-ghost use mathlib.Core.Bool.{Bool, true, false};
+ghost use mathlib.Core.Bool.{false};
 ghost use lib.ListN.{length, getD, drop as rest};
 ghost use Rattle.text.specs.Cells.{singles};
 ghost use Rattle.text.specs.Singles.{singles-lawful, singles-short};

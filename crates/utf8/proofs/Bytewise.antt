@@ -1,24 +1,23 @@
 -- Code points against code points, by their bytes. Assumes nothing.
 use Prim.Native.Nat.{ℕ, zero, suc, _+_, _-_, _*_, _≤_, _<_}
 use mathlib.Core.Path.{_≡_, refl, sym, ap, subst, _∙_}
-use mathlib.Core.Logic.{_⊎_, inl, inr, ⊎-elim}
-use mathlib.Core.Bool.{Bool, true, false, cond, _&&_}
+use mathlib.Core.Logic.{⊎-elim}
+use mathlib.Core.Bool.{true, false, cond, _&&_}
 use mathlib.Core.List.{List, [], _∷_}
 use native.Mathlib.Nat.{zero-add}
 use native.Mathlib.Omega.{arith}
-use lib.Dec.{leb, ltb, eqb}
+use lib.Dec.{eqb}
 use lib.ListN.{length, take, drop, getD}
-use Rattle.std.proofs.shelf.Tests.{cases-lt, cases-eq, cases-bool, and-parts, and-from, eq-eqb, ne-eqb, eqb-true, false≢true, both-ways, cond-true, cond-false}
+use Rattle.std.proofs.shelf.Tests.{cases-lt, cases-eq, cases-bool, and-parts, and-from, eq-eqb, ne-eqb, eqb-true, false≢true, both-ways, cond-false}
 use Rattle.std.proofs.shelf.Lists.{length-drop, nil-from-length}
-use Rattle.std.specs.declared.option.Option.the-variants.{Some, None}
+use Rattle.std.specs.declared.option.Option.the-variants.{Some}
 use Rattle.text.specs.declared.CompareResult.the-variants as compared
 use Rattle.text.specs.Cells.{Cell, total, singles}
 use Rattle.text.specs.Search.{same, matched, until, is}
 use Rattle.text.proofs.Walking.{bytes-skip}
-use Rattle.utf8.specs.declared.rows.Row.{Row}
-use Rattle.utf8.specs.Octets.{rows, row-of, follow, glue, char, scan, WellFormed, tails-of}
-use Rattle.utf8.specs.Scans.{none≢some, Read, read, follow-parts, follow-fits, char-fits}
-use Rattle.utf8.proofs.Table.{Sound, row-sound, inside-bounds, base-of, least}
+use Rattle.utf8.specs.Octets.{rows, row-of, follow, glue, char, scan, WellFormed}
+use Rattle.utf8.specs.Scans.{none≢some, read, follow-parts, follow-fits, char-fits}
+use Rattle.utf8.proofs.Table.{row-sound, inside-bounds, base-of, least}
 use Rattle.utf8.proofs.Steps.{char-ascii}
 use Rattle.utf8.proofs.Decode.{some-tails}
 use Rattle.utf8.proofs.Starts.{scan-parts, same-head, char-local, follow-range}

@@ -1,13 +1,12 @@
 -- A code point of a well-formed text, from its bytes with no test of them. Assumes nothing.
-use Prim.Native.Nat.{ℕ, zero, suc, _+_, _-_, _*_, _≤_, _<_}
+use Prim.Native.Nat.{ℕ, suc, _+_, _-_, _*_, _≤_, _<_}
 use mathlib.Core.Path.{_≡_, refl, sym, ap, subst, _∙_}
 use mathlib.Core.Logic.{_⊎_, ⊎-elim}
-use mathlib.Core.Bool.{Bool, true, false, cond}
-use mathlib.Core.List.{List, [], _∷_}
+use mathlib.Core.Bool.{true, false}
+use mathlib.Core.List.{List}
 use native.Mathlib.Omega.{arith}
-use lib.Dec.{ltb}
 use lib.ListN.{length, drop, getD}
-use Rattle.std.proofs.shelf.Tests.{cases-lt, false≢true, lt-ltb, le-ltb, cond-true, cond-false}
+use Rattle.std.proofs.shelf.Tests.{cases-lt, false≢true}
 use Rattle.std.proofs.shelf.Ways.{tells}
 use Rattle.std.proofs.shelf.Lists.{drop-more, drop-all, length-drop, getD-drop}
 use Rattle.std.specs.declared.option.Option.{Option}
@@ -16,8 +15,8 @@ use Rattle.std.specs.Options.{isSome}
 use Rattle.text.specs.Cells.{Cell, total, first}
 use Rattle.text.specs.Search.{code-of}
 use Rattle.utf8.specs.Octets.{glue, char, scan, WellFormed, tails-of}
-use Rattle.utf8.specs.Scans.{none≢some, Read, read, follow-fits, scan-none, first-scan}
-use Rattle.utf8.proofs.Table.{Sound, row-sound, base-of}
+use Rattle.utf8.specs.Scans.{none≢some, read, follow-fits, scan-none, first-scan}
+use Rattle.utf8.proofs.Table.{row-sound, base-of}
 use Rattle.utf8.proofs.Starts.{follow-range}
 
 -- how many bytes follow, by the lead byte

@@ -1,8 +1,8 @@
 -- The scan against the syntax of RFC 3629. Assumes nothing.
-use Prim.Native.Nat.{ℕ, zero, suc, _+_, _-_, _*_, _≤_, _<_}
+use Prim.Native.Nat.{ℕ, zero, suc, _+_, _-_, _≤_, _<_}
 use mathlib.Core.Path.{_≡_, refl, sym, ap, subst, _∙_}
 use mathlib.Core.Logic.{⊎-elim}
-use mathlib.Core.Bool.{Bool, true, false, cond, _&&_}
+use mathlib.Core.Bool.{true, false, cond}
 use mathlib.Core.List.{List, [], _∷_, _++_, List·Memᴰ, List·Memᴰ·head, List·Memᴰ·tail}
 use native.Mathlib.Nat.{sub-zero}
 use native.Mathlib.Omega.{arith}
@@ -10,7 +10,7 @@ use lib.Dec.{eqb, ltb, lit<}
 use lib.ListN.{length, take, drop, getD, length-append, take-append-drop}
 use Rattle.std.proofs.shelf.Tests.{cases-lt, cases-eq, and-from, eq-eqb, ne-eqb, lt-ltb, le-ltb, false≢true, cond-true, cond-false}
 use Rattle.std.proofs.shelf.Lists.{drop-at, length-drop, length-take-le, take-take, drop-take, nil-from-length}
-use Rattle.std.specs.declared.option.Option.the-variants.{Some, None}
+use Rattle.std.specs.declared.option.Option.the-variants.{Some}
 use Rattle.std.specs.declared.result.Result.{Result}
 use Rattle.std.specs.declared.result.Result.the-variants.{Ok, Err}
 use Rattle.text.specs.declared.Refusal.{Refusal}
@@ -19,9 +19,9 @@ use Rattle.text.specs.Answers.{kept}
 use Rattle.text.specs.Cells.{Cell, total}
 use Rattle.text.proofs.Cuts.{boundary-total, total-before}
 use Rattle.utf8.specs.declared.rows.Row.{Row}
-use Rattle.utf8.specs.Octets.{rows, inside, row-of, follow, glue, led, char, scan, WellFormed}
-use Rattle.utf8.specs.Scans.{none≢some, Read, read, follow-parts, follow-fits, char-fits, scan-some, solid-scan}
-use Rattle.utf8.specs.Rfc.{In, Tail, code-2, code-3, code-4, Char, ascii, two, three-e0, three-e1, three-ed, three-ee, four-f0, four-f1, four-f4, Octets, none, more, codes, Utf8, Longest, TextAnswer, TagAnswer}
+use Rattle.utf8.specs.Octets.{rows, inside, follow, glue, led, char, scan, WellFormed}
+use Rattle.utf8.specs.Scans.{none≢some, Read, read, follow-parts, char-fits, scan-some, solid-scan}
+use Rattle.utf8.specs.Rfc.{In, Tail, Char, ascii, two, three-e0, three-e1, three-ed, three-ee, four-f0, four-f1, four-f4, Octets, none, more, codes, Utf8, Longest, TextAnswer, TagAnswer}
 use Rattle.utf8.specs.Answers.{well-check, utf8-text-check, utf8-tag-check}
 use Rattle.utf8.proofs.Table.{inside-yes, inside-bounds, row-listed, listed-row}
 use Rattle.utf8.proofs.Starts.{scan-parts, char-local, before-scan}

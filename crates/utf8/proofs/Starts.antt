@@ -1,6 +1,6 @@
 -- Well-formed bytes by their code points: where these start, and what a span of them holds. Assumes nothing.
 use Prim.Native.Nat.{ℕ, zero, suc, _+_, _-_, _*_, _≤_, _<_}
-use mathlib.Core.Path.{_≡_, refl, sym, ap, subst, _∙_}
+use mathlib.Core.Path.{_≡_, refl, sym, ap, _∙_}
 use mathlib.Core.Logic.{⊎-elim}
 use mathlib.Core.Bool.{Bool, true, false, cond, _&&_}
 use mathlib.Core.List.{List, [], _∷_}
@@ -9,15 +9,13 @@ use lib.Dec.{leb, ltb, eqb}
 use lib.ListN.{length, take, drop, getD}
 use Rattle.std.proofs.shelf.Tests.{cases-lt, cases-eq, and-left, le-leb, lt-leb, lt-ltb, le-ltb, eq-eqb, ne-eqb, or-left, or-right, or-from, false≢true, cond-true, cond-false}
 use Rattle.std.proofs.shelf.Lists.{drop-drop, length-drop, length-take-le, take-take, drop-take, getD-drop, nil-from-length}
-use Rattle.std.specs.declared.option.Option.{Option}
-use Rattle.std.specs.declared.option.Option.the-variants.{Some, None}
+use Rattle.std.specs.declared.option.Option.the-variants.{Some}
 use Rattle.std.specs.Options.{isSome}
 use Rattle.text.specs.Cells.{Cell, total, boundary, after, before, cut, Within, first}
 use Rattle.text.proofs.Cuts.{On, item-on, past-first, boundary-after, total-after, cut-total, cut-step}
-use Rattle.utf8.specs.declared.rows.Row.{Row}
-use Rattle.utf8.specs.Octets.{rows, inside, row-of, follow, glue, led, char, scan, WellFormed, leads}
+use Rattle.utf8.specs.Octets.{inside, follow, glue, led, char, scan, WellFormed, leads}
 use Rattle.utf8.specs.Scans.{none≢some, Read, read, follow-parts, char-fits, scan-some, first-scan, solid-scan}
-use Rattle.utf8.proofs.Table.{Sound, row-sound, inside-bounds}
+use Rattle.utf8.proofs.Table.{row-sound, inside-bounds}
 
 -- a scan, taken apart
 pub scan-parts : (bs : List ℕ) (c : Cell) (cs : List Cell) → scan bs ≡ c ∷ cs → (char bs ≡ Some c) × (scan (drop (c .1) bs) ≡ cs)

@@ -1,5 +1,5 @@
 -- The table of lead bytes: the walk over it, and its rule, which one test of the whole table shows. Assumes nothing.
-use Prim.Native.Nat.{ℕ, zero, suc, _+_, _-_, _*_, _≤_, _<_}
+use Prim.Native.Nat.{ℕ, _+_, _-_, _*_, _≤_, _<_}
 use mathlib.Core.Path.{_≡_, refl, sym, ap, subst, _∙_}
 use mathlib.Core.Logic.{_⊎_, inl, inr, ⊎-elim}
 use mathlib.Core.Bool.{Bool, true, false, cond, _&&_, _||_}
@@ -8,9 +8,8 @@ use native.Mathlib.Omega.{arith}
 use Rattle.std.proofs.shelf.Ways.{tells}
 use lib.Dec.{leb, ltb, eqb}
 use lib.ListN.{length, drop, getD}
-use Rattle.std.proofs.shelf.Tests.{cases-lt, cases-bool, and-parts, and-from, and-left, and-right, leb-true, ltb-true, le-leb, lt-leb, lt-ltb, le-ltb, or-cases, eqb-true, cond-true, cond-false}
+use Rattle.std.proofs.shelf.Tests.{cases-bool, and-parts, and-from, and-left, and-right, leb-true, ltb-true, le-leb, lt-leb, or-cases, eqb-true, cond-true, cond-false}
 use Rattle.std.proofs.shelf.Lists.{drop-more, drop-all}
-use Rattle.std.specs.declared.option.Option.{Option}
 use Rattle.std.specs.declared.option.Option.the-variants.{Some, None}
 use Rattle.utf8.specs.declared.rows.Row.{Row}
 use Rattle.utf8.specs.Octets.{rows, inside, row-of, tails-of}

@@ -1,15 +1,15 @@
 -- What the scan of a list of bytes comes to: no code point is empty, and each lies within the bytes. Assumes nothing.
-use Prim.Native.Nat.{ℕ, zero, suc, _+_, _-_, _≤_, _<_, suc-le-suc}
+use Prim.Native.Nat.{ℕ, zero, suc, _-_, _≤_, _<_, suc-le-suc}
 use mathlib.Core.Path.{_≡_, refl, sym, ap, _∙_}
 use mathlib.Core.Logic.{⊎-elim}
-use mathlib.Core.Bool.{Bool, true, false, cond}
+use mathlib.Core.Bool.{true, false}
 use mathlib.Core.List.{List, [], _∷_}
 use native.Mathlib.Omega.{arith}
 use lib.ListN.{length, drop}
 use Rattle.std.proofs.shelf.Tests.{cases-bool, and-parts, false≢true, cond-true, cond-false}
 use Rattle.std.specs.declared.option.Option.{Option}
 use Rattle.std.specs.declared.option.Option.the-variants.{Some, None}
-use Rattle.text.specs.Cells.{Cell, total, Solid, first, Lawful, Short}
+use Rattle.text.specs.Cells.{Cell, Solid, first, Lawful, Short}
 use Rattle.utf8.specs.declared.rows.Row.{Row}
 use Rattle.utf8.specs.Octets.{rows, inside, row-of, follow, led, char, push, scan-past, scan, WellFormed, glue}
 

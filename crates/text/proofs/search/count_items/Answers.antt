@@ -1,8 +1,7 @@
 use Prim.Native.Nat.{_≤_}
-use mathlib.Core.Path.{_≡_, sym, ap, _∙_}
+use mathlib.Core.Path.{ap}
 use native.Mathlib.Omega.{arith}
 use lib.ListN.{length}
-use Rattle.text.specs.Cells.{total}
 use Rattle.text.proofs.Cuts.{On, item-on}
 use Rattle.text.proofs.search.count_items.Given as given
 use Rattle.text.proofs.search.count_items.Needs as need

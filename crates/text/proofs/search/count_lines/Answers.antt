@@ -1,7 +1,6 @@
-use Prim.Native.Nat.{ℕ, _≤_, _+_, suc}
-use mathlib.Core.Path.{_≡_, sym, ap, _∙_}
+use Prim.Native.Nat.{_≤_, _+_}
+use mathlib.Core.Path.{ap}
 use native.Mathlib.Omega.{arith}
-use Rattle.text.specs.Cells.{Cell, cut, Within, total}
 use Rattle.text.specs.Search.{is, counted, lines}
 use Rattle.text.proofs.Cuts.{On, item-on, item-end}
 use Rattle.text.proofs.Walking.{Counting, count-next, count-on, until-meets}

@@ -1,5 +1,5 @@
 use Prim.Native.Nat.{_<_}
-use mathlib.Core.Path.{_≡_, sym, _∙_}
+use mathlib.Core.Path.{sym, _∙_}
 use native.Mathlib.Omega.{arith}
 use Rattle.utf8.proofs.Steps.{scan-on, scan-stop, scan-end}
 use Rattle.utf8.proofs.check.valid_up_to.Needs as need

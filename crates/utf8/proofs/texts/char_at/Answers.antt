@@ -1,9 +1,7 @@
-use Prim.Native.Nat.{_+_, _<_, _≤_}
-use mathlib.Core.Path.{_≡_}
+use Prim.Native.Nat.{_+_}
 use native.Mathlib.Omega.{arith}
-use lib.ListN.{length, getD}
+use lib.ListN.{getD}
 use mathlib.Core.Logic.{⊎-elim}
-use Rattle.utf8.specs.Octets.{tails-of}
 use Rattle.utf8.proofs.Decode.{starts-at, some-tails, two-tails, tails-0, tails-1, tails-2, tails-3, code-at-1, code-at-2, code-at-3, code-at-4}
 use Rattle.utf8.proofs.texts.char_at.Needs as need
 

@@ -1,4 +1,3 @@
-use borrow.Author.Needs.{needs}
 use native.Mathlib.Omega.{arith}
 use Rattle.text.specs.Singles.{within-singles, first-singles}
 use Rattle.text.proofs.bytes.ByteTextText.item.Needs as need

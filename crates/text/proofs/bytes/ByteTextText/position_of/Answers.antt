@@ -1,4 +1,4 @@
-use mathlib.Core.Path.{_≡_, sym, ap, _∙_}
+use mathlib.Core.Path.{sym, ap, _∙_}
 use Rattle.text.specs.Cells.{singles}
 use Rattle.text.specs.Search.{until, is}
 use Rattle.text.specs.Singles.{cut-singles}

@@ -1,6 +1,4 @@
-use Prim.Native.Nat.{_-_}
-use mathlib.Core.Path.{_≡_, sym, ap, subst, _∙_}
-use lib.ListN.{take, drop}
+use mathlib.Core.Path.{sym, ap, subst, _∙_}
 use Rattle.text.specs.Search.{matched}
 use Rattle.utf8.specs.Octets.{scan, WellFormed}
 use Rattle.utf8.proofs.Starts.{cut-scan, well-cut}

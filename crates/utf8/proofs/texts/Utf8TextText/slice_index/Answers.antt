@@ -1,14 +1,13 @@
-use Prim.Native.Nat.{ℕ, _+_, _-_, _<_, suc}
-use mathlib.Core.Path.{_≡_, sym, subst}
+use Prim.Native.Nat.{ℕ, _+_, _-_, _<_}
+use mathlib.Core.Path.{sym, subst}
 use mathlib.Core.List.{List}
 use native.Mathlib.Omega.{arith}
-use lib.ListN.{drop, getD}
-use Rattle.text.specs.Cells.{Cell, Within, cut}
+use Rattle.text.specs.Cells.{Within, cut}
 use Rattle.text.specs.Need.{unknown}
 use Rattle.text.specs.Search.{sliced}
-use Rattle.text.proofs.Cuts.{On, cut-end}
+use Rattle.text.proofs.Cuts.{cut-end}
 use Rattle.text.proofs.Walking.{Slicing, slicing-start, slicing-on, slicing-done, slicing-short}
-use Rattle.utf8.specs.Octets.{scan, tails-of}
+use Rattle.utf8.specs.Octets.{scan}
 use Rattle.utf8.proofs.Decode.{Starts-at, starts-at}
 use Rattle.utf8.proofs.Starts.{some-cut, on-char}
 use Rattle.utf8.proofs.texts.Utf8TextText.slice_index.Needs as need
