@@ -1,4 +1,5 @@
 pub mod Cuts
 pub mod Matching
 pub mod Walking
+pub mod Places
 pub mod Needs

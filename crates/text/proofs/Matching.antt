@@ -45,7 +45,7 @@ module _ (xs ys : List ℕ) (i : ℕ) where
   pub bytes-begin : length ys ≤ i → matched (singles (drop i xs)) (singles (drop i ys)) ≡ compared.Ok
   bytes-begin h = rw (drop-all i ys h) (matched-empty (singles (drop i xs)))
 
-same-parts : (c d : Cell) → same c d ≡ true → (c .0 ≡ d .0) × (c .1 ≡ d .1)
+pub same-parts : (c d : Cell) → same c d ≡ true → (c .0 ≡ d .0) × (c .1 ≡ d .1)
 same-parts c d h = let p = and-parts _ _ h in (eqb-true _ _ (p .0), eqb-true _ _ (p .1))
 
 -- where the items of a match lie side by side, it goes on
@@ -85,7 +85,7 @@ module _ (cs : List Cell) (e : ℕ) (solid : Solid cs) where
       (cases-lt s e)
 
 -- a search, one item on
-found-here : (cs ts : List Cell) → begins (matched cs ts) ≡ true → found cs ts ≡ Some 0
+pub found-here : (cs ts : List Cell) → begins (matched cs ts) ≡ true → found cs ts ≡ Some 0
 found-here [] ts h = cond-true _ _ _ h
 found-here (c ∷ cs) ts h = cond-true _ _ _ h
 

@@ -7,6 +7,7 @@ ghost use lib.ListN.{length, getD, drop as rest};
 ghost use Rattle.text.specs.Cells.{singles};
 ghost use Rattle.text.specs.Singles.{singles-lawful, singles-short};
 ghost use Rattle.text.specs.Search.{matched, until, is};
+ghost use Rattle.text.specs.Laws.{FirstByte};
 ghost use Rattle.text.specs.Need.{needed};
 ghost use Rattle.text.specs.Answers.{byte-text-check, byte-tag-check, kept};
 use super::CompareResult;
@@ -129,7 +130,8 @@ fn skip_windows(bytes: &[u8], byte: u8) -> usize
 
 // How many bytes come before the first that is `byte`: all of them where none is.
 pub fn find_byte(bytes: &[u8], byte: u8) -> usize
-    ensures { λ r. ⌜ r ≡ until (is byte) (singles (now (bytes .entry))) ⌝ }
+    ensures value { λ r. ⌜ r ≡ until (is byte) (singles (now (bytes .entry))) ⌝ }
+    ensures first { λ r. ⌜ FirstByte (now (bytes .entry)) byte r ⌝ }
 {
     let mut at = skip_windows(bytes, byte);
     while at < bytes.len() && bytes[at] != byte {

@@ -31,6 +31,7 @@ pub use bytes::ByteTextText;
 pub use search::count_items;
 pub use search::count_lines;
 pub use search::find;
+pub use search::starts_with;
 pub use search::whole;
 
 // The most bytes that a text may have.

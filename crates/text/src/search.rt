@@ -4,7 +4,8 @@ ghost use mathlib.Core.Path.{_≡_};
 ghost use lib.ListN.{length};
 ghost use Rattle.std.specs.Options.{Cases as BySome};
 ghost use Rattle.text.specs.Cells.{total, cut, Within};
-ghost use Rattle.text.specs.Search.{begins, found, lines};
+ghost use Rattle.text.specs.Search.{begins, matched, found, lines};
+ghost use Rattle.text.specs.Laws.{Begins, FirstPlace, Lines};
 use super::CompareResult;
 use super::Needle;
 use super::Span;
@@ -13,10 +14,13 @@ use super::Text;
 // The item that ends a line.
 const LINE_END: u32 = 10;
 
-fn is_ok(compared: CompareResult) -> bool
-    ensures { λ r. ⌜ r ≡ begins compared ⌝ }
+// Whether the span begins with the tag.
+pub fn starts_with<T: Text>(text: &T, span: Span, tag: &T::Tag) -> bool
+    requires { ⌜ Within (T·Text .cells (now text)) (span .start) (span .end) ⌝ }
+    ensures value { λ r. ⌜ r ≡ begins (matched (cut (T·Text .cells (now (text .entry))) (span .start) (span .end)) (Tag·Needle .spelt (now (tag .entry)))) ⌝ }
+    ensures prefix { λ r. ⌜ Begins (cut (T·Text .cells (now (text .entry))) (span .start) (span .end)) (Tag·Needle .spelt (now (tag .entry))) r ⌝ }
 {
-    match compared {
+    match text.compare(span, tag) {
         CompareResult::Ok => true,
         CompareResult::Incomplete => false,
         CompareResult::Error => false,
@@ -28,6 +32,7 @@ fn is_ok(compared: CompareResult) -> bool
 pub fn find<T: Text>(text: &T, span: Span, tag: &T::Tag) -> Option<usize>
     requires { ⌜ Within (T·Text .cells (now text)) (span .start) (span .end) ⌝ }
     ensures value { λ r. ⌜ r ≡ found (cut (T·Text .cells (now (text .entry))) (span .start) (span .end)) (Tag·Needle .spelt (now (tag .entry))) ⌝ }
+    ensures first { λ r. ⌜ FirstPlace (cut (T·Text .cells (now (text .entry))) (span .start) (span .end)) (Tag·Needle .spelt (now (tag .entry))) r ⌝ }
     ensures inside { λ r. ⌜ BySome r (Unit {0}) (λ n. Within (T·Text .cells (now (text .entry))) (span .start + n) (span .start + n + total (Tag·Needle .spelt (now (tag .entry)))) × (span .start + n + total (Tag·Needle .spelt (now (tag .entry))) ≤ span .end)) ⌝ }
 {
     let Some(code) = tag.first() else {
@@ -36,7 +41,7 @@ pub fn find<T: Text>(text: &T, span: Span, tag: &T::Tag) -> Option<usize>
     let mut rest = span;
     loop {
         rest.start += text.position_of(rest, code);
-        if is_ok(text.compare(rest, tag)) {
+        if starts_with(text, rest, tag) {
             return Some(rest.start - span.start);
         }
         match text.item(rest) {
@@ -73,7 +78,8 @@ pub fn count_items<T: Text>(text: &T) -> usize
 
 // How many lines the text has: the pieces between line ends, so always one more than these.
 pub fn count_lines<T: Text>(text: &T) -> usize
-    ensures { λ r. ⌜ r ≡ lines (T·Text .cells (now (text .entry))) ⌝ }
+    ensures value { λ r. ⌜ r ≡ lines (T·Text .cells (now (text .entry))) ⌝ }
+    ensures pieces { λ r. ⌜ Lines (T·Text .cells (now (text .entry))) r ⌝ }
 {
     let mut span = whole(text);
     let mut count = 1;

@@ -54,11 +54,19 @@ fn compare_and_find() -> Result<(), Fail> {
         let byte_tag = ByteTag::new(tag.as_bytes());
         let span = text::whole(&bytes);
         check_eq(bytes.compare(span, &byte_tag), compared)?;
+        check_eq(
+            text::starts_with(&bytes, span, &byte_tag),
+            compared == CompareResult::Ok,
+        )?;
         check_eq(text::find(&bytes, span, &byte_tag), found)?;
         let chars = Utf8Text::new(text.as_bytes());
         let char_tag = Utf8Tag::new(tag.as_bytes());
         let span = text::whole(&chars);
         check_eq(chars.compare(span, &char_tag), compared)?;
+        check_eq(
+            text::starts_with(&chars, span, &char_tag),
+            compared == CompareResult::Ok,
+        )?;
         check_eq(text::find(&chars, span, &char_tag), found)?;
     }
     Ok(())

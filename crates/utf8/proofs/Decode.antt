@@ -12,10 +12,9 @@ use Rattle.std.proofs.shelf.Lists.{drop-more, drop-all, length-drop, getD-drop}
 use Rattle.std.specs.declared.option.Option.{Option}
 use Rattle.std.specs.declared.option.Option.the-variants.{Some, None}
 use Rattle.std.specs.Options.{isSome}
-use Rattle.text.specs.Cells.{Cell, total, first}
-use Rattle.text.specs.Search.{code-of}
-use Rattle.utf8.specs.Octets.{glue, char, scan, WellFormed, tails-of}
-use Rattle.utf8.specs.Scans.{none≢some, read, follow-fits, scan-none, first-scan}
+use Rattle.text.specs.Cells.{Cell}
+use Rattle.utf8.specs.Octets.{glue, char, tails-of}
+use Rattle.utf8.specs.Scans.{none≢some, read, follow-fits}
 use Rattle.utf8.proofs.Table.{row-sound, base-of}
 use Rattle.utf8.proofs.Starts.{follow-range}
 
@@ -114,14 +113,3 @@ module _ (bs : List ℕ) (at : ℕ) (here : Starts-at bs at) where
       ∙ ap (λ i. Some ((((getD bs at 0 - 0xF0) * 64 + (getD bs (at + 1) 0 - 0x80)) * 64 + (getD bs (at + 1 + 1) 0 - 0x80)) * 64 + (getD bs i 0 - 0x80), suc (tails-of (getD bs at 0)))) three
       ∙ ap (λ x. Some (x, suc (tails-of (getD bs at 0)))) (glue-on 0 (((getD bs at 0 - 0xF0) * 64 + (getD bs (at + 1) 0 - 0x80)) * 64 + (getD bs (at + 1 + 1) 0 - 0x80)) (at + 1 + 1 + 1) (omega arith) ∙ glue-on 1 ((getD bs at 0 - 0xF0) * 64 + (getD bs (at + 1) 0 - 0x80)) (at + 1 + 1) (omega arith) ∙ glue-on 2 (getD bs at 0 - 0xF0) (at + 1) (omega arith))
       ∙ gives-of 3 e
-
--- a well-formed list of bytes that is not empty starts with a code point
-pub well-starts : (bs : List ℕ) → WellFormed bs → 0 < length bs → isSome (char bs) ≡ true
-well-starts bs w h = go (char bs) refl
-  where
-    go : (o : Option Cell) → char bs ≡ o → isSome (char bs) ≡ true
-    go None e = absurd (omega (arith, w, ap total (scan-none bs e)))
-    go (Some c) e = ap isSome e
-
-pub first-code : (bs : List ℕ) (code w : ℕ) → Some (code, w) ≡ char bs → Some code ≡ code-of (first (scan bs))
-first-code bs code w e = ap code-of (e ∙ sym (first-scan bs))

@@ -1,9 +1,10 @@
 use Prim.Native.Nat.{_≤_, _+_}
-use mathlib.Core.Path.{ap}
+use mathlib.Core.Path.{_≡_, ap}
 use native.Mathlib.Omega.{arith}
 use Rattle.text.specs.Search.{is, counted, lines}
 use Rattle.text.proofs.Cuts.{On, item-on, item-end}
 use Rattle.text.proofs.Walking.{Counting, count-next, count-on, until-meets}
+use Rattle.text.proofs.Places.{lines-by}
 use Rattle.text.proofs.search.count_lines.Given as given
 use Rattle.text.proofs.search.count_lines.Needs as need
 use Rattle.text.proofs.search.count_lines.Needs.{After-position-of, In-Some}
@@ -43,7 +44,8 @@ pub returns-in-None : need.returns-in-None
 returns-in-None g c =
     let cells = g .T·Text .cells (c .args .text .now) in
     let none = ap (counted (is 10)) (item-end cells (c .loop-width .span .start + c .position-of .result) (c .loop-width .span .end) (c .in-None .ensures tt)) in
-    omega (arith, none, next g (need.at·returns-in-None g c .After-position-of) .so-far)
+    let value : c .loop-width .count ≡ lines cells = omega (arith, none, next g (need.at·returns-in-None g c .After-position-of) .so-far) in
+    record { value = value; pieces = lines-by cells (c .loop-width .count) value }
 
 pub loop-width-less : need.loop-width-less
 loop-width-less g c = let on = step g (need.at·loop-width-less g c .In-Some) in omega (arith, on .fits, on .wide)

@@ -1,11 +1,13 @@
 use Prim.Native.Nat.{_+_, _≤_}
-use mathlib.Core.Path.{refl, sym, ap, subst, _∙_}
+use mathlib.Core.Path.{_≡_, refl, sym, ap, subst, _∙_}
 use native.Mathlib.Nat.{add-zero}
 use native.Mathlib.Omega.{arith}
 use Rattle.text.specs.Cells.{total, cut, Within}
-use Rattle.text.specs.Search.{begins, found}
+use Rattle.text.specs.Search.{found}
 use Rattle.text.proofs.Cuts.{On, item-on, item-end}
 use Rattle.text.proofs.Matching.{Reached, reach-start, reach-on, reach-next, starts-not, found-empty, found-now, found-inside, found-nowhere}
+use Rattle.text.proofs.Places.{first-by}
+use Rattle.std.specs.declared.option.Option.the-variants.{Some}
 use Rattle.text.proofs.search.find.Given as given
 use Rattle.text.proofs.search.find.Needs as need
 use Rattle.text.proofs.search.find.Needs.{After-position-of, In-Some-item}
@@ -17,8 +19,10 @@ returns-in-rest g c =
     let e = c .args .span .end in
     let none = starts-not (g .Tag·Needle .spelt (c .args .tag .now)) (c .in-rest .ensures tt) in
     let w : Within cells s (s + 0) × (s + 0 ≤ e) = subst (λ x. Within cells s x × (x ≤ e)) (sym (add-zero s)) ((omega arith, c .pre .1, c .pre .1), c .pre .0) in
+    let value : Some 0 ≡ found (cut cells s e) (g .Tag·Needle .spelt (c .args .tag .now)) = found-empty (cut cells s e) ∙ ap (found (cut cells s e)) (sym none) in
     record {
-      value = found-empty (cut cells s e) ∙ ap (found (cut cells s e)) (sym none);
+      value = value;
+      first = first-by (cut cells s e) (g .Tag·Needle .spelt (c .args .tag .now)) (Some 0) value;
       inside =
           subst (λ l. Within cells (s + 0) (s + 0 + total l) × (s + 0 + total l ≤ e)) (sym none)
           (subst (λ x. Within cells x (x + 0) × (x + 0 ≤ e)) (sym (add-zero s)) w);
@@ -36,15 +40,16 @@ step g c = item-on _ _ _ _ (g .T·Text .lawful (c .args .text .now) .solid) (rea
 pub add-rest : need.add-rest
 add-rest g c = omega (arith, next g (need.at·add-rest g c .After-position-of) .within .0)
 
-pub compare-requires : need.compare-requires
-compare-requires g c κs = next g (need.at·compare-requires g c .After-position-of) .within
+pub starts-with-requires : need.starts-with-requires
+starts-with-requires g c κs = next g (need.at·starts-with-requires g c .After-position-of) .within
 
-pub returns-then-is-ok : need.returns-then-is-ok
-returns-then-is-ok g c =
-    let here = next g (need.at·returns-then-is-ok g c .After-position-of) in
-    let yes = ap begins (sym (c .compare .ensures)) ∙ sym (c .if-is-ok .ensures tt) in
+pub returns-then-starts-with : need.returns-then-starts-with
+returns-then-starts-with g c =
+    let here = next g (need.at·returns-then-starts-with g c .After-position-of) in
+    let yes = sym (c .if-starts-with .ensures tt .value) in
     let inside = found-inside _ _ _ _ _ _ here (g .T·Text .lawful (c .args .text .now) .solid) yes in
-    record { value = found-now _ _ _ _ _ _ here yes; inside = (inside .0, omega (arith, inside .1, c .loop-span .inv .0)) }
+    let value = found-now _ _ _ _ _ _ here yes in
+    record { value = value; first = first-by _ _ _ value; inside = (inside .0, omega (arith, inside .1, c .loop-span .inv .0)) }
 
 pub item-requires : need.item-requires
 item-requires g c κs = next g (need.at·item-requires g c .After-position-of) .within
@@ -59,16 +64,12 @@ pub loop-span-again : need.loop-span-again
 loop-span-again g c = (
   c .loop-span .inv .0,
   reach-on _ _ _ _ _ _ (next g (need.at·loop-span-again g c .After-position-of)) _ (step g (need.at·loop-span-again g c .In-Some-item))
-      (ap begins (sym (c .compare .ensures)) ∙ sym (c .if-is-ok .ensures tt)),
+      (sym (c .if-starts-with .ensures tt .value)),
 )
 
 pub returns-in-None : need.returns-in-None
 returns-in-None g c =
     let here = next g (need.at·returns-in-None g c .After-position-of) in
-    let not = ap begins (sym (c .compare .ensures)) ∙ sym (c .if-is-ok .ensures tt) in
-    record {
-      value =
-          found-nowhere _ _ _ _ _ _ here
-          (item-end (g .T·Text .cells (c .args .text .now)) (c .loop-span .rest .start + c .position-of .result) (c .loop-span .rest .end) (c .in-None .ensures tt)) not;
-      inside = tt;
-    }
+    let not = sym (c .if-starts-with .ensures tt .value) in
+    let value = found-nowhere _ _ _ _ _ _ here (item-end (g .T·Text .cells (c .args .text .now)) (c .loop-span .rest .start + c .position-of .result) (c .loop-span .rest .end) (c .in-None .ensures tt)) not in
+    record { value = value; first = first-by _ _ _ value; inside = tt }

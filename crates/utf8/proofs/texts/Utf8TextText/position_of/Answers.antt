@@ -14,7 +14,7 @@ returns-then-code-lt128 c =
     let e = c .args .span .end in
     let part = take (e - s) (drop s bs) in
     let well = c .args .self .now .well in
-    c .find-byte .ensures
+    c .find-byte .ensures .value
     ∙ ap (λ l. until (is (c .args .code)) (singles l)) (c .bytes .ensures)
     ∙ until-ascii (c .args .code) part (c .if-code-lt128 .taken) (well-cut bs s e well (c .pre))
     ∙ ap (until (is (c .args .code))) (sym (cut-scan bs s e well (c .pre)))
