@@ -22,12 +22,14 @@ use super::TAG_LIMIT;
 use super::TEXT_LIMIT;
 use super::Text;
 
+// A tag of bytes.
 #[derive(Clone, Copy)]
 pub struct ByteTag<'a> {
     bytes: &'a [u8],
     ghost few: { length (now bytes) ≤ 32 },
 }
 
+// A text of bytes.
 #[derive(Clone, Copy)]
 pub struct ByteText<'a> {
     bytes: &'a [u8],

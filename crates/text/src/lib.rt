@@ -199,6 +199,7 @@ pub impl Predicate for Is as IsPredicate {
 
 // A tag: a short list of items that a text is compared with.
 pub trait Needle {
+    // the tag's meaning: its items
     ghost spelt: { Self → List Cell };
     // what each implementation proves of its items
     ghost short: { (t : Self) → Short (spelt t) };
@@ -212,6 +213,7 @@ pub trait Needle {
         ensures { λ r. ⌜ r ≡ code-of (first (spelt (now (self .entry)))) ⌝ };
 }
 
+// What a text answers. A span that it is asked about lies in the text, on item boundaries.
 pub trait Text {
     type Tag: Needle + Drop;
 

@@ -29,6 +29,7 @@ use text::Text;
 use text::bytes::compare_bytes;
 use text::bytes::find_byte;
 
+// A tag of code points.
 #[derive(Clone, Copy)]
 pub struct Utf8Tag<'a> {
     bytes: &'a [u8],
@@ -36,6 +37,7 @@ pub struct Utf8Tag<'a> {
     ghost well: { WellFormed (now bytes) },
 }
 
+// A text of code points. Its bytes are well-formed, wherever a value of it is.
 #[derive(Clone, Copy)]
 pub struct Utf8Text<'a> {
     bytes: &'a [u8],
