@@ -217,8 +217,9 @@ pub trait Needle {
 pub trait Text {
     type Tag: Needle + Drop;
 
+    // the text's meaning: its items, each a code and a width
     ghost cells: { Self → List Cell };
-
+    // its bytes
     ghost raw: { Self → List ℕ };
     // what each implementation proves of its items
     ghost lawful: { (t : Self) → Lawful (cells t) (raw t) };
