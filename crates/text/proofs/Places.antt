@@ -15,10 +15,10 @@ use Rattle.text.specs.Search.{same, matched, begins, found, further, until, is
 use Rattle.text.specs.Laws.{Begins, Stands, FirstPlace, Lines, last, more, FirstByte}
 use Rattle.text.proofs.Matching.{same-parts, matched-same, matched-other, matched-empty, found-here}
 
-same-self : (c : Cell) → same c c ≡ true
+pub same-self : (c : Cell) → same c c ≡ true
 same-self c = and-from _ _ (eq-eqb (c .0) (c .0) refl) (eq-eqb (c .1) (c .1) refl)
 
-same-from : (c t : Cell) → same c t ≡ true → c ≡ t
+pub same-from : (c t : Cell) → same c t ≡ true → c ≡ t
 same-from c t h = let p = same-parts c t h in ap (λ x. (x, c .1)) (p .0) ∙ ap (λ y. (t .0, y)) (p .1)
 
 prefix : (cs ts : List Cell) → begins (matched cs ts) ≡ true → (after : List Cell) × (cs ≡ ts ++ after)

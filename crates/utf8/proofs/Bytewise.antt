@@ -8,12 +8,13 @@ use native.Mathlib.Nat.{zero-add}
 use native.Mathlib.Omega.{arith}
 use lib.Dec.{eqb}
 use lib.ListN.{length, take, drop, getD}
-use Rattle.std.proofs.shelf.Tests.{cases-lt, cases-eq, cases-bool, and-parts, and-from, eq-eqb, ne-eqb, eqb-true, false≢true, both-ways, cond-false}
+use Rattle.std.proofs.shelf.Tests.{cases-lt, cases-eq, cases-bool, eq-eqb, ne-eqb, false≢true, both-ways, cond-false}
 use Rattle.std.proofs.shelf.Lists.{length-drop, nil-from-length}
 use Rattle.std.specs.declared.option.Option.the-variants.{Some}
 use Rattle.text.specs.declared.CompareResult.the-variants as compared
 use Rattle.text.specs.Cells.{Cell, total, singles}
 use Rattle.text.specs.Search.{same, matched, until, is}
+use Rattle.text.proofs.Places.{same-self, same-from}
 use Rattle.text.proofs.Walking.{bytes-skip}
 use Rattle.utf8.specs.Octets.{rows, row-of, follow, glue, char, scan, WellFormed}
 use Rattle.utf8.specs.Scans.{none≢some, read, follow-parts, follow-fits, char-fits}
@@ -74,16 +75,6 @@ apart (suc w) (x ∷ xs) (y ∷ ys) h k e =
     (λ q. ap (λ b. cond (b && true) (matched (singles xs) (singles ys)) compared.Error) (eq-eqb x y q) ∙ apart w xs ys (omega arith) (omega arith) (λ z. e (cc)))
     (λ q. ap (λ b. cond (b && true) (matched (singles xs) (singles ys)) compared.Error) (ne-eqb x y q))
     (cases-eq x y)
-
-same-from : (c t : Cell) → same c t ≡ true → c ≡ t
-same-from c t h =
-    let p = and-parts _ _ h in
-    let a = eqb-true (c .0) (t .0) (p .0) in
-    let b = eqb-true (c .1) (t .1) (p .1) in
-    ap (λ x. (x, c .1)) a ∙ ap (λ y. (t .0, y)) b
-
-same-self : (c : Cell) → same c c ≡ true
-same-self c = and-from _ _ (eq-eqb (c .0) (c .0) refl) (eq-eqb (c .1) (c .1) refl)
 
 -- unlike code points differ in a byte that both have
 differ : (xs ys : List ℕ) (c t : Cell) → char xs ≡ Some c → char ys ≡ Some t → same c t ≡ false → matched (singles xs) (singles ys) ≡ compared.Error
