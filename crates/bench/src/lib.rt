@@ -1,27 +1,19 @@
 // The library's scans under C names, for the benchmark in tools/bench to call. Nothing else uses this crate.
-ghost use denote.Ref.{now};
-ghost use mathlib.Core.Path.{_≡_};
-ghost use Rattle·text.specs.Answers.{byte-text-check, byte-tag-check, kept};
-ghost use Rattle·text.specs.Cells.{total, singles};
-ghost use Rattle·text.specs.Search.{until};
-ghost use Rattle·utf8.specs.Answers.{utf8-text-check, utf8-tag-check};
-ghost use Rattle·utf8.specs.Octets.{scan};
-ghost use Rattle·bench·specs.Found.{placed, upper};
-use text::ByteTag;
-use text::ByteTagNeedle;
-use text::ByteText;
-use text::ByteTextText;
-use text::Predicate;
-use text::Text;
-use utf8::Utf8Tag;
-use utf8::Utf8TagNeedle;
-use utf8::Utf8Text;
-use utf8::Utf8TextText;
+ghost use Rattle.std.specs.Prelude.{◌≡◌};
+ghost use Rattle.text.specs.Answers.{byte_text_check, byte_tag_check, kept};
+ghost use Rattle.text.specs.Cells.{total, singles};
+ghost use Rattle.text.specs.Search.{until};
+ghost use Rattle.utf8.specs.Answers.{utf8_text_check, utf8_tag_check};
+ghost use Rattle.utf8.specs.Octets.{scan};
+ghost use Rattle.bench.specs.Found.{placed, upper};
+
+use text::{ByteTag, ByteText, Needle, Predicate, Text};
+use utf8::{Utf8Tag, Utf8Text};
 
 // An upper-case ASCII letter: a test of some cost that the benchmark's texts seldom meet.
 struct Upper;
 
-impl Predicate for Upper as UpperPredicate {
+impl Predicate for Upper {
     ghost holds = { λ _ item. upper item };
 
     fn test(&self, item: u32) -> bool {
@@ -30,7 +22,7 @@ impl Predicate for Upper as UpperPredicate {
 }
 
 fn place_of<T: Text>(text: &T, tag: &T::Tag) -> usize
-    ensures { λ r. ⌜ r ≡ placed (T·Text .cells (now (text .entry))) (Tag·Needle .spelt (now (tag .entry))) ⌝ }
+    ensures { result ≡ placed (T.Text.cells text.now) (T.Tag.Needle.spelt tag.now) }
 {
     let span = text::whole(text);
     match text::find(text, span, tag) {
@@ -40,7 +32,7 @@ fn place_of<T: Text>(text: &T, tag: &T::Tag) -> usize
 }
 
 fn first_upper<T: Text>(text: &T) -> usize
-    ensures { λ r. ⌜ r ≡ until upper (T·Text .cells (now (text .entry))) ⌝ }
+    ensures { result ≡ until upper (T.Text.cells text.now) }
 {
     let span = text::whole(text);
     text.position(span, &Upper)
@@ -49,7 +41,7 @@ fn first_upper<T: Text>(text: &T) -> usize
 // How many bytes the longest well-formed prefix has.
 #[unsafe(no_mangle)]
 pub extern "C" fn fazdrigon_valid_up_to(bytes: &[u8]) -> usize
-    ensures { λ r. ⌜ r ≡ total (scan (now (bytes .entry))) ⌝ }
+    ensures { result ≡ total (scan bytes.now) }
 {
     utf8::valid_up_to(bytes)
 }
@@ -57,7 +49,7 @@ pub extern "C" fn fazdrigon_valid_up_to(bytes: &[u8]) -> usize
 // Where the tag is first found in a byte text; the text's length where it is not.
 #[unsafe(no_mangle)]
 pub extern "C" fn fazdrigon_find_bytes(bytes: &[u8], tag: &[u8]) -> usize
-    ensures { λ r. ⌜ r ≡ placed (singles (kept (byte-text-check (now (bytes .entry))) (now (bytes .entry)))) (singles (kept (byte-tag-check (now (tag .entry))) (now (tag .entry)))) ⌝ }
+    ensures { result ≡ placed (singles (kept (byte_text_check bytes.now) bytes.now)) (singles (kept (byte_tag_check tag.now) tag.now)) }
 {
     place_of(&ByteText::new(bytes), &ByteTag::new(tag))
 }
@@ -65,7 +57,7 @@ pub extern "C" fn fazdrigon_find_bytes(bytes: &[u8], tag: &[u8]) -> usize
 // The same in a UTF-8 text.
 #[unsafe(no_mangle)]
 pub extern "C" fn fazdrigon_find_utf8(bytes: &[u8], tag: &[u8]) -> usize
-    ensures { λ r. ⌜ r ≡ placed (scan (kept (utf8-text-check (now (bytes .entry))) (now (bytes .entry)))) (scan (kept (utf8-tag-check (now (tag .entry))) (now (tag .entry)))) ⌝ }
+    ensures { result ≡ placed (scan (kept (utf8_text_check bytes.now) bytes.now)) (scan (kept (utf8_tag_check tag.now) tag.now)) }
 {
     place_of(&Utf8Text::new(bytes), &Utf8Tag::new(tag))
 }
@@ -73,7 +65,7 @@ pub extern "C" fn fazdrigon_find_utf8(bytes: &[u8], tag: &[u8]) -> usize
 // Where the first upper-case letter of a byte text is; the text's length where there is none.
 #[unsafe(no_mangle)]
 pub extern "C" fn fazdrigon_position_bytes(bytes: &[u8]) -> usize
-    ensures { λ r. ⌜ r ≡ until upper (singles (kept (byte-text-check (now (bytes .entry))) (now (bytes .entry)))) ⌝ }
+    ensures { result ≡ until upper (singles (kept (byte_text_check bytes.now) bytes.now)) }
 {
     first_upper(&ByteText::new(bytes))
 }
@@ -81,7 +73,7 @@ pub extern "C" fn fazdrigon_position_bytes(bytes: &[u8]) -> usize
 // The same in a UTF-8 text.
 #[unsafe(no_mangle)]
 pub extern "C" fn fazdrigon_position_utf8(bytes: &[u8]) -> usize
-    ensures { λ r. ⌜ r ≡ until upper (scan (kept (utf8-text-check (now (bytes .entry))) (now (bytes .entry)))) ⌝ }
+    ensures { result ≡ until upper (scan (kept (utf8_text_check bytes.now) bytes.now)) }
 {
     first_upper(&Utf8Text::new(bytes))
 }

@@ -2,37 +2,21 @@
 //
 // `Satisfy` takes one item, and appends its code to the sink. `Before` cuts out the span before an item. `line` is a build
 // that reads two runs of hooks, as in `3u,5d`.
-ghost use Prim.Native.Nat.{_+_, _-_, _≤_};
-ghost use denote.Ref.{now};
-ghost use mathlib.Core.Path.{_≡_};
-ghost use mathlib.Core.Bool.{Bool, _&&_};
-ghost use lib.Dec.{leb};
-ghost use Rattle·text.specs.Cells.{first, cut, Within};
-ghost use Rattle·text.specs.Search.{until, is};
-ghost use Rattle·parse.specs.Run.{told};
-ghost use Rattle·parse.specs.declared.error.ErrorKind.the-variants.{IsA as IsAKind};
-ghost use Rattle·demo·specs.Leaves.{satisfied, satisfied-suffix, before-item, before-inside, digit};
-use parse::Checked;
-use parse::ErrorKind;
-use parse::Fault;
-use parse::Function;
-use parse::ParseError;
-use parse::Parser;
-use parse::Subspan;
-use sequence::AnyParserExt;
-use sequence::ParserExt;
+ghost use Rattle.std.specs.Prelude.{◌≡◌, ◌+◌, ◌-◌, ◌≤◌, Bool, ◌&&◌};
+ghost use Rattle.text.specs.Cells.{first, cut, Within};
+ghost use Rattle.text.specs.Search.{until, is};
+ghost use Rattle.parse.specs.Run.{told};
+ghost use Rattle.parse.specs.declared.error.ErrorKind.TheVariants.{IsA as IsAKind};
+ghost use Rattle.demo.specs.Leaves.{satisfied, satisfied_suffix, before_item, before_inside, digit};
+
+use parse::{Checked, ErrorKind, Fault, Function, ParseError, Parser, Subspan};
 use sequence::dropping::Preceded;
 use sequence::maps::Map;
 use sequence::pairs::And;
-use sequence::separated_pair;
 use sequence::ways::Or;
+use sequence::{ParserExt, separated_pair};
 use sink::Sink;
-use text::Is;
-use text::Manner;
-use text::Needed;
-use text::Predicate;
-use text::Span;
-use text::Text;
+use text::{Is, Manner, Needed, Predicate, Span, Text};
 
 // One item that meets a test. Its code is the output, and is appended to the sink.
 #[derive(Clone, Copy)]
@@ -46,8 +30,8 @@ fn next_item<M: Manner, E: ParseError, T: Text, P: Predicate>(
     span: Span,
     test: &P,
 ) -> Result<(Span, u32), Fault<E>>
-    requires { ⌜ Within (T·Text .cells (now text)) (span .start) (span .end) ⌝ }
-    ensures { λ r. ⌜ r ≡ told (satisfied (P·Predicate .holds (now (test .entry))) (E·ParseError .made span IsAKind) (M·Manner .complete) span (first (cut (T·Text .cells (now (text .entry))) (span .start) (span .end))) .outcome) ⌝ }
+    requires { Within (T.Text.cells text.now) span.start span.end }
+    ensures { result ≡ told (satisfied (P.Predicate.holds test.now) (E.ParseError.made span IsAKind) M.Manner.complete span (first (cut (T.Text.cells text.now) span.start span.end))).outcome }
 {
     match text.item(span) {
         Some((code, width)) => {
@@ -72,12 +56,12 @@ fn next_item<M: Manner, E: ParseError, T: Text, P: Predicate>(
     }
 }
 
-pub impl<T: Text, E: ParseError, P: Predicate> Parser<T, u32, E> for Satisfy<P> as SatisfyParser {
+impl<T: Text, E: ParseError, P: Predicate> Parser<T, u32, E> for Satisfy<P> {
     type Output = u32;
 
-    ghost means = { λ p cs s c. satisfied (P·Predicate .holds (p .test)) (E·ParseError .made s IsAKind) c s (first (cut cs (s .start) (s .end))) };
+    ghost means = { λ p cs s c. satisfied (P.Predicate.holds p.test) (E.ParseError.made s IsAKind) c s (first (cut cs s.start s.end)) };
 
-    ghost suffix = { λ p cs s c k w. satisfied-suffix (P·Predicate .holds (p .test)) (E·ParseError .made s IsAKind) c cs s k w };
+    ghost suffix = { λ p cs s c k w. satisfied_suffix (P.Predicate.holds p.test) (E.ParseError.made s IsAKind) c cs s k w };
 
     fn check<M: Manner>(&self, text: &T, span: Span) -> Checked<u32, E> {
         match next_item::<M, E, T, P>(text, span, &self.test) {
@@ -110,10 +94,10 @@ pub struct Before {
     pub code: u32,
 }
 
-pub impl<T: Text, I: Copy, E: ParseError> Subspan<T, I, E> for Before as BeforeSubspan {
-    ghost cuts = { λ p cs s c. before-item (p .code) cs s };
+impl<T: Text, I: Copy, E: ParseError> Subspan<T, I, E> for Before {
+    ghost cuts = { λ p cs s c. before_item p.code cs s };
 
-    ghost inside = { λ p cs s c k w. before-inside I E (p .code) cs s k w };
+    ghost inside = { λ p cs s c k w. before_inside I E p.code cs s k w };
 
     fn cut<M: Manner>(&self, text: &T, span: Span) -> Result<(Span, Span), Fault<E>> {
         let at = span.start + text.position_of(span, self.code);
@@ -134,7 +118,7 @@ pub impl<T: Text, I: Copy, E: ParseError> Subspan<T, I, E> for Before as BeforeS
 #[derive(Clone, Copy)]
 pub struct Digit;
 
-pub impl Predicate for Digit as DigitPredicate {
+impl Predicate for Digit {
     ghost holds = { λ _. digit };
 
     fn test(&self, item: u32) -> bool {
@@ -146,7 +130,7 @@ pub impl Predicate for Digit as DigitPredicate {
 #[derive(Clone, Copy)]
 pub struct DigitValue;
 
-pub impl<T: Text> Function<T, u32> for DigitValue as DigitValueFunction {
+impl<T: Text> Function<T, u32> for DigitValue {
     type Value = u32;
 
     ghost value = { λ _ _ code. code - 48 };
@@ -163,14 +147,14 @@ type Run = And<Map<Satisfy<Digit>, DigitValue, u32>, Or<Satisfy<Is>, Satisfy<Is>
 pub type Line = And<Run, Preceded<Satisfy<Is>, Run, u32>>;
 
 fn item(code: u32) -> Satisfy<Is>
-    ensures { λ r. ⌜ r .test .code ≡ code ⌝ }
+    ensures { result.test.code ≡ code }
 {
     Satisfy { test: Is { code } }
 }
 
 fn run() -> Run
-    ensures up { λ r. ⌜ r .g .f .test .code ≡ 117 ⌝ }
-    ensures down { λ r. ⌜ r .g .g .test .code ≡ 100 ⌝ }
+    ensures up { result.g.f.test.code ≡ 117 }
+    ensures down { result.g.g.test.code ≡ 100 }
 {
     Satisfy { test: Digit }
         .map(DigitValue)
@@ -179,9 +163,9 @@ fn run() -> Run
 
 // A parser of two runs: `3u,5d`.
 pub fn line() -> Line
-    ensures comma { λ r. ⌜ r .g .f .test .code ≡ 44 ⌝ }
-    ensures up { λ r. ⌜ (r .f .g .f .test .code ≡ 117) × (r .g .g .g .f .test .code ≡ 117) ⌝ }
-    ensures down { λ r. ⌜ (r .f .g .g .test .code ≡ 100) × (r .g .g .g .g .test .code ≡ 100) ⌝ }
+    ensures comma { result.g.f.test.code ≡ 44 }
+    ensures up { (result.f.g.f.test.code ≡ 117) × (result.g.g.g.f.test.code ≡ 117) }
+    ensures down { (result.f.g.g.test.code ≡ 100) × (result.g.g.g.g.test.code ≡ 100) }
 {
     separated_pair(run(), item(44), run())
 }

@@ -1,30 +1,7 @@
 // A demonstration of the parsers: two runs of hooks, as `3u,5d`, read by check and by emit.
-use demo::DigitPredicate;
-use demo::DigitValueFunction;
-use demo::SatisfyParser;
-use parse::Checked;
-use parse::Emitted;
-use parse::Error;
-use parse::ErrorDebug;
-use parse::ErrorParseError;
-use parse::Fault;
-use parse::FaultDisplay;
-use sequence::AndParser;
-use sequence::MapParser;
-use sequence::OrParser;
-use sequence::PrecededParser;
-use std::fmt;
-use std::io;
-use text::ByteText;
-use text::ByteTextText;
-use text::Complete;
-use text::CompleteManner;
-use text::IsPredicate;
-use text::Manner;
-use text::RefusalDisplay;
-use text::Span;
-use text::Streaming;
-use text::StreamingManner;
+use parse::{Checked, Emitted, Error, Fault, Parser};
+use std::{fmt, io};
+use text::{ByteText, Complete, Manner, Span, Streaming, Text};
 
 // Both runs: a number of hooks, and the code of `u` or `d`.
 type Runs = ((u32, u32), (u32, u32));
@@ -35,7 +12,7 @@ struct Answer {
     answer: Result<(Span, Runs), Fault<Error>>,
 }
 
-impl fmt::Display for Answer as AnswerDisplay {
+impl fmt::Display for Answer {
     fn fmt<W: fmt::Write>(&self, f: &mut fmt::Formatter<W>) -> fmt::Result {
         match &self.answer {
             Ok((rest, runs)) => {
@@ -49,7 +26,7 @@ impl fmt::Display for Answer as AnswerDisplay {
 
 // Emits into so many places, and prints the answer and the items.
 fn show_emit<M: Manner + Copy>(
-    rt: &LibcRuntime,
+    rt: &HostRuntime,
     text: &ByteText,
     manner: M,
     places: &mut [u32],
@@ -62,15 +39,15 @@ fn show_emit<M: Manner + Copy>(
         places,
     );
     let answer = Answer { answer };
-    print!(rt, "    emit, {len} places: {answer}; items")?;
+    print!(rt; "    emit, {len} places: {answer}; items")?;
     for item in places.iter().take(count) {
-        print!(rt, " {item}")?;
+        print!(rt; " {item}")?;
     }
     println!(rt)
 }
 
 fn show_manner<M: Manner + Copy>(
-    rt: &LibcRuntime,
+    rt: &HostRuntime,
     name: &str,
     text: &ByteText,
     manner: M,
@@ -81,16 +58,16 @@ fn show_manner<M: Manner + Copy>(
         peak,
     } = parse::check::<u32, Error, _, _, _>(&demo::line(), text, manner);
     let answer = Answer { answer };
-    println!(rt, "  {name}")?;
-    println!(rt, "    check: {answer}; items {count}, peak {peak}")?;
+    println!(rt; "  {name}")?;
+    println!(rt; "    check: {answer}; items {count}, peak {peak}")?;
     show_emit(rt, text, manner, &mut [0; 4])?;
     show_emit(rt, text, manner, &mut [0; 2])
 }
 
 // Prints what the parser gives on the line, under both manners, by check and by emit into enough and into too few places.
-pub fn show_line(rt: &LibcRuntime, line: &[u8]) -> io::Result<()> {
+pub fn show_line(rt: &HostRuntime, line: &[u8]) -> io::Result<()> {
     if let Err(refusal) = ByteText::check(line) {
-        return println!(rt, "  refused: {refusal}");
+        return println!(rt; "  refused: {refusal}");
     }
     let text = ByteText::new(line);
     show_manner(rt, "streaming", &text, Streaming)?;

@@ -1,6 +1,6 @@
 // What the words of the command line ask for.
-ghost use denote.Ref.{now};
-ghost use Rattle·loom·specs.Words.{Parsed};
+ghost use Rattle.loom.specs.Words.{Parsed};
+
 use std::fmt;
 
 #[derive(Clone, Copy)]
@@ -19,7 +19,7 @@ pub enum UsageError<'a> {
     TooManyWords,
 }
 
-pub impl<'a> fmt::Display for UsageError<'a> as UsageErrorDisplay {
+impl<'a> fmt::Display for UsageError<'a> {
     fn fmt<W: fmt::Write>(&self, f: &mut fmt::Formatter<W>) -> fmt::Result {
         match self {
             UsageError::NoCommand => write!(f, "no command given"),
@@ -33,7 +33,7 @@ pub impl<'a> fmt::Display for UsageError<'a> as UsageErrorDisplay {
 impl<'a> Command<'a> {
     // The words are those after the program's name.
     pub fn parse(words: &'a [String]) -> Result<Command<'a>, UsageError<'a>>
-        ensures { λ r. ⌜ Parsed (now (words .entry)) r ⌝ }
+        ensures { Parsed words.now result }
     {
         let [first, rest @ ..] = words else {
             return Err(UsageError::NoCommand);

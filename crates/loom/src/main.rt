@@ -3,16 +3,12 @@
 // `main` reads the arguments, the files and the standard input, and prints. What it prints of a text is counted by
 // functions with contracts (module `report`); what the words of the command line mean is decided in module `command`.
 use std::alloc::AllocError;
-use std::env;
-use std::fs;
-use std::io;
+use std::{env, fs, io};
 
 mod command;
 mod report;
 
 use command::Command;
-use command::UsageErrorDisplay;
-use report::ReportDisplay;
 use report::report_on;
 use std::io::Read;
 
@@ -35,19 +31,19 @@ enum Ended {
     Memory,
 }
 
-impl From<io::Error> for Ended as EndedFromIo {
+impl From<io::Error> for Ended {
     fn from(_error: io::Error) -> Ended {
         Ended::Output
     }
 }
 
-impl From<AllocError> for Ended as EndedFromAlloc {
+impl From<AllocError> for Ended {
     fn from(_error: AllocError) -> Ended {
         Ended::Memory
     }
 }
 
-fn read_input(rt: &LibcRuntime, name: &str) -> io::Result<Vec<u8>> {
+fn read_input(rt: &HostRuntime, name: &str) -> io::Result<Vec<u8>> {
     if name == "-" {
         let mut bytes = Vec::new(rt.alloc());
         rt.stdin().read_to_end(&mut bytes)?;
@@ -57,16 +53,16 @@ fn read_input(rt: &LibcRuntime, name: &str) -> io::Result<Vec<u8>> {
 }
 
 // Tells of each file; one that cannot be read does not keep the others from being told of.
-fn tell_texts(rt: &LibcRuntime, names: &[String]) -> Result<(), Ended> {
+fn tell_texts(rt: &HostRuntime, names: &[String]) -> Result<(), Ended> {
     let mut ended = Ok(());
     for name in names {
         match read_input(rt, name.as_str()) {
             Ok(bytes) => {
                 let report = report_on(bytes.as_slice());
-                println!(rt, "{name}\n{report}")?;
+                println!(rt; "{name}\n{report}")?;
             }
             Err(error) => {
-                eprintln!(rt, "loom: cannot read '{name}': {error}")?;
+                eprintln!(rt; "loom: cannot read '{name}': {error}")?;
                 ended = Err(Ended::Unreadable);
             }
         }
@@ -74,19 +70,19 @@ fn tell_texts(rt: &LibcRuntime, names: &[String]) -> Result<(), Ended> {
     ended
 }
 
-fn run(rt: &LibcRuntime) -> Result<(), Ended> {
+fn run(rt: &HostRuntime) -> Result<(), Ended> {
     let words: Vec<String> = env::args(rt)?.skip(1).collect(rt.alloc())?;
     match Command::parse(words.as_slice()) {
-        Ok(Command::Help) => println!(rt, "{HELP}")?,
+        Ok(Command::Help) => println!(rt; "{HELP}")?,
         Ok(Command::Text(names)) => tell_texts(rt, names)?,
         Err(error) => {
-            eprintln!(rt, "loom: {error}\nTry 'loom --help'.")?;
+            eprintln!(rt; "loom: {error}\nTry 'loom --help'.")?;
             return Err(Ended::Usage);
         }
     }
     Ok(())
 }
 
-fn main(rt: LibcRuntime) -> Result<(), Ended> {
+fn main(rt: HostRuntime) -> Result<(), Ended> {
     run(&rt)
 }

@@ -1,23 +1,15 @@
 // What is told of bytes: as a byte text and as a UTF-8 text.
-ghost use denote.Ref.{now};
-ghost use mathlib.Core.Path.{_≡_};
-ghost use Rattle·text.specs.Answers.{byte-text-check};
-ghost use Rattle·text.specs.Cells.{singles};
-ghost use Rattle·text.specs.Search.{lines};
-ghost use Rattle·utf8.specs.Answers.{utf8-text-check};
-ghost use Rattle·utf8.specs.Octets.{scan};
-ghost use Rattle·loom·specs.Counts.{counts-of, told};
+ghost use Rattle.std.specs.Prelude.{◌≡◌};
+ghost use Rattle.text.specs.Answers.{byte_text_check};
+ghost use Rattle.text.specs.Cells.{singles};
+ghost use Rattle.text.specs.Search.{lines};
+ghost use Rattle.utf8.specs.Answers.{utf8_text_check};
+ghost use Rattle.utf8.specs.Octets.{scan};
+ghost use Rattle.loom.specs.Counts.{counts_of, told};
+
 use std::fmt;
-use text::ByteText;
-use text::ByteTextText;
-use text::Refusal;
-use text::RefusalDebug;
-use text::RefusalDisplay;
-use text::RefusalEq;
-use text::RefusalPartialEq;
-use text::Text;
+use text::{ByteText, Refusal, Text};
 use utf8::Utf8Text;
-use utf8::Utf8TextText;
 
 // A text's size.
 #[derive(Clone, Copy, PartialEq, Eq, Debug)]
@@ -34,7 +26,7 @@ pub enum Verdict {
     Refused(Refusal),
 }
 
-pub impl fmt::Display for Verdict as VerdictDisplay {
+impl fmt::Display for Verdict {
     fn fmt<W: fmt::Write>(&self, f: &mut fmt::Formatter<W>) -> fmt::Result {
         match self {
             Verdict::Accepted(counts) => {
@@ -60,7 +52,7 @@ pub struct Report {
     pub as_utf8: Verdict,
 }
 
-pub impl fmt::Display for Report as ReportDisplay {
+impl fmt::Display for Report {
     fn fmt<W: fmt::Write>(&self, f: &mut fmt::Formatter<W>) -> fmt::Result {
         let as_bytes = self.as_bytes;
         let as_utf8 = self.as_utf8;
@@ -69,7 +61,7 @@ pub impl fmt::Display for Report as ReportDisplay {
 }
 
 fn count<T: Text>(text: &T) -> Counts
-    ensures { λ r. ⌜ r ≡ counts-of (T·Text .cells (now (text .entry))) ⌝ }
+    ensures { result ≡ counts_of (T.Text.cells text.now) }
 {
     Counts {
         bytes: text.len(),
@@ -79,8 +71,8 @@ fn count<T: Text>(text: &T) -> Counts
 }
 
 pub fn report_on(bytes: &[u8]) -> Report
-    ensures bytes { λ r. ⌜ r .«as_bytes» ≡ told (byte-text-check (now (bytes .entry))) (singles (now (bytes .entry))) ⌝ }
-    ensures utf8 { λ r. ⌜ r .«as_utf8» ≡ told (utf8-text-check (now (bytes .entry))) (scan (now (bytes .entry))) ⌝ }
+    ensures bytes { result.as_bytes ≡ told (byte_text_check bytes.now) (singles bytes.now) }
+    ensures utf8 { result.as_utf8 ≡ told (utf8_text_check bytes.now) (scan bytes.now) }
 {
     let as_bytes = match ByteText::check(bytes) {
         Ok(_) => Verdict::Accepted(count(&ByteText::new(bytes))),

@@ -1,15 +1,10 @@
 -- What a parser means: an outcome, and the most of its items that stood at one moment. Assumes nothing.
-use Prim.Native.Nat.{ℕ, _+_, _≤_, _<_, max, min}
-use mathlib.Core.Path.{_≡_}
-use mathlib.Core.List.{List, [], _∷_, _++_}
-use lib.ListN.{length}
-use Rattle·std.specs.declared.result.Result.{Result}
-use Rattle·std.specs.declared.result.Result.the-variants.{Ok, Err}
-use Rattle·text.specs.declared.Needed.{Needed}
-use Rattle·text.specs.declared.Span.{Span}
-use Rattle·text.specs.Cells.{Cell, Within}
-use Rattle·parse·specs.declared.Fault.{Fault}
-use Rattle·parse·specs.declared.Fault.the-variants.{Incomplete, Error, Failure, Full}
+use Rattle.std.specs.Prelude.{◌≡◌, ℕ, ◌+◌, ◌<◌, ◌≤◌, min, max, List, [], ◌∷◌, ◌++◌, length, Ok, Err, Result}
+use Rattle.text.specs.declared.Needed.{Needed}
+use Rattle.text.specs.declared.Span.{Span}
+use Rattle.text.specs.Cells.{Cell, Within}
+use Rattle.parse.specs.declared.Fault.{Fault}
+use Rattle.parse.specs.declared.Fault.TheVariants.{Incomplete, Error, Failure, Full}
 
 -- how a parser ends: done with a remainder, an output and items; short of input; an error, after which another way may be
 -- tried; or a failure, after which none is
@@ -40,8 +35,8 @@ items (failure e) = []
 
 -- what emit answers, and the list that it leaves: Full, and the list as it was, exactly where the free places are fewer than the peak
 pub data Emits {O I E : Type 0} (run : Run O I E) (places : ℕ) (before : List I) (r : Result (Span × O) (Fault E)) (after : List I) : Type 0 where
-  full : places < length before + run .peak → r ≡ Err Full → after ≡ before → Emits run places before r after
-  room : length before + run .peak ≤ places → r ≡ told (run .outcome) → after ≡ before ++ items (run .outcome) → Emits run places before r after
+  full : places < length before + run.peak → r ≡ Err Full → after ≡ before → Emits run places before r after
+  room : length before + run.peak ≤ places → r ≡ told run.outcome → after ≡ before ++ items run.outcome → Emits run places before r after
 
 -- a number as a check tells it: it stops at the largest of 32 bits
 abbrev pub capped : ℕ → ℕ
@@ -49,15 +44,15 @@ capped n = min n 4294967295
 
 -- what check tells: the answer, how many items there are, and the peak
 pub record Checks {O I E : Type 0} (run : Run O I E) (answer : Result (Span × O) (Fault E)) (count peak : ℕ) : Type 0 where
-  pub answered : answer ≡ told (run .outcome)
-  pub counted : count ≡ capped (length (items (run .outcome)))
-  pub peaked : peak ≡ capped (run .peak)
+  pub answered : answer ≡ told run.outcome
+  pub counted : count ≡ capped (length (items run.outcome))
+  pub peaked : peak ≡ capped run.peak
 
 -- a remainder of a span of a text: it lies in the text, starts no earlier and ends where the span ends
 pub record Rests (cs : List Cell) (s r : Span) : Type 0 where
-  pub later : s .start ≤ r .start
-  pub within : Within cs (r .start) (r .end)
-  pub ends : r .end ≡ s .end
+  pub later : s.start ≤ r.start
+  pub within : Within cs r.start r.end
+  pub ends : r.end ≡ s.end
 
 -- the remainder of an outcome, where it is done, is one of the span
 abbrev pub Suffix : {O I E : Type 0} → List Cell → Span → Outcome O I E → Type 0

@@ -1,15 +1,10 @@
 -- What is said of a run on a whole text, in the words of a caller of check and of emit. Assumes nothing.
-use Prim.Native.Nat.{ℕ, _+_, _≤_, _<_}
-use mathlib.Core.Path.{_≡_}
-use mathlib.Core.List.{List, _++_}
-use lib.ListN.{length}
-use Rattle·std.specs.declared.result.Result.{Result}
-use Rattle·std.specs.declared.result.Result.the-variants.{Ok, Err}
-use Rattle·text.specs.declared.Span.{Span}
-use Rattle·text.specs.Cells.{Cell, total}
-use Rattle·parse·specs.declared.Fault.{Fault}
-use Rattle·parse·specs.declared.Fault.the-variants.{Full}
-use Rattle·parse·specs.Run.{Run, Checks, Rests}
+use Rattle.std.specs.Prelude.{◌≡◌, ℕ, ◌+◌, ◌<◌, ◌≤◌, List, ◌++◌, length, Ok, Err, Result}
+use Rattle.text.specs.declared.Span.{Span}
+use Rattle.text.specs.Cells.{Cell, total}
+use Rattle.parse.specs.declared.Fault.{Fault}
+use Rattle.parse.specs.declared.Fault.TheVariants.{Full}
+use Rattle.parse.specs.Run.{Run, Checks, Rests}
 
 -- the span of a whole text
 abbrev pub all : List Cell → Span
@@ -17,7 +12,7 @@ all cs = record { start = 0; end = total cs }
 
 -- where an answer is Ok, its remainder is one of the span
 abbrev pub Remains : {O E : Type 0} → List Cell → Span → Result (Span × O) (Fault E) → Type 0
-Remains cs s (Ok x) = Rests cs s (x .0)
+Remains cs s (Ok x) = Rests cs s x.0
 Remains cs s (Err e) = Unit {0}
 
 -- unless an answer is Ok, the list is as it was

@@ -1,25 +1,12 @@
 // A parser on a whole text: the calls that a program makes.
-ghost use denote.Ref.{now};
-ghost use mathlib.Core.Path.{_≡_};
-ghost use mathlib.Core.List.{[]};
-ghost use lib.ListN.{take as front};
-ghost use Rattle·sink.specs.Sheets.{sheet-cap};
-ghost use Rattle·parse·specs.Run.{Checks, Emits};
-ghost use Rattle·parse·specs.Whole.{all, Remains, Undone, Agreeing};
-use super::Checked;
-use super::Fault;
-use super::ParseError;
-use super::Parser;
-use crate::FaultDebug;
-use crate::FaultPartialEq;
-use sink::Sheet;
-use sink::SheetSink;
-use sink::Sink;
-use text::Manner;
-use text::Span;
-use text::SpanDebug;
-use text::SpanPartialEq;
-use text::Text;
+ghost use Rattle.std.specs.Prelude.{◌≡◌, [], take as front};
+ghost use Rattle.sink.specs.Sheets.{sheet_cap};
+ghost use Rattle.parse.specs.Run.{Checks, Emits};
+ghost use Rattle.parse.specs.Whole.{all, Remains, Undone, Agreeing};
+
+use super::{Checked, Fault, ParseError, Parser};
+use sink::{Sheet, Sink};
+use text::{Manner, Span, Text};
 
 // Tells the outcome, how many items there are, and the most that would stand at one moment. The item and the error type
 // come first, since no argument tells them: `check::<u32, Error, _, _, _>(&parser, &text, Complete)`.
@@ -28,8 +15,8 @@ pub fn check<I: Copy, E: ParseError, T: Text, M: Manner + Drop, P: Parser<T, I, 
     text: &T,
     _manner: M,
 ) -> Checked<P::Output, E>
-    ensures tells { λ r. ⌜ Checks (P·Parser .means (now (parser .entry)) (T·Text .cells (now (text .entry))) (all (T·Text .cells (now (text .entry)))) (M·Manner .complete)) (r .answer) (r .count) (r .peak) ⌝ }
-    ensures remains { λ r. ⌜ Remains (T·Text .cells (now (text .entry))) (all (T·Text .cells (now (text .entry)))) (r .answer) ⌝ }
+    ensures tells { Checks (P.Parser.means parser.now (T.Text.cells text.now) (all (T.Text.cells text.now)) M.Manner.complete) result.answer result.count result.peak }
+    ensures remains { Remains (T.Text.cells text.now) (all (T.Text.cells text.now)) result.answer }
 {
     parser.check::<M>(text, text::whole(text))
 }
@@ -42,12 +29,12 @@ pub fn emit<E: ParseError, T: Text, M: Manner + Drop, S: Sink, P: Parser<T, S::I
     _manner: M,
     sink: &mut S,
 ) -> Result<(Span, P::Output), Fault<E>>
-    ensures cap { λ _. ⌜ S·Sink .cap (now (sink .exit)) ≡ S·Sink .cap (now (sink .entry)) ⌝ }
-    ensures lent { λ _. ⌜ S·Sink .lent (now (sink .exit)) ≡ S·Sink .lent (now (sink .entry)) ⌝ }
-    ensures emits { λ r. ⌜ Emits (P·Parser .means (now (parser .entry)) (T·Text .cells (now (text .entry))) (all (T·Text .cells (now (text .entry)))) (M·Manner .complete)) (S·Sink .cap (now (sink .entry))) (S·Sink .list (now (sink .entry))) r (S·Sink .list (now (sink .exit))) ⌝ }
-    ensures agrees { λ r. ⌜ Agreeing (P·Parser .means (now (parser .entry)) (T·Text .cells (now (text .entry))) (all (T·Text .cells (now (text .entry)))) (M·Manner .complete)) (S·Sink .cap (now (sink .entry))) (S·Sink .list (now (sink .entry))) r (S·Sink .list (now (sink .exit))) ⌝ }
-    ensures remains { λ r. ⌜ Remains (T·Text .cells (now (text .entry))) (all (T·Text .cells (now (text .entry)))) r ⌝ }
-    ensures undone { λ r. ⌜ Undone r (S·Sink .list (now (sink .entry))) (S·Sink .list (now (sink .exit))) ⌝ }
+    ensures cap { S.Sink.cap sink.new ≡ S.Sink.cap sink.old }
+    ensures lent { S.Sink.lent sink.new ≡ S.Sink.lent sink.old }
+    ensures emits { Emits (P.Parser.means parser.now (T.Text.cells text.now) (all (T.Text.cells text.now)) M.Manner.complete) (S.Sink.cap sink.old) (S.Sink.list sink.old) result (S.Sink.list sink.new) }
+    ensures agrees { Agreeing (P.Parser.means parser.now (T.Text.cells text.now) (all (T.Text.cells text.now)) M.Manner.complete) (S.Sink.cap sink.old) (S.Sink.list sink.old) result (S.Sink.list sink.new) }
+    ensures remains { Remains (T.Text.cells text.now) (all (T.Text.cells text.now)) result }
+    ensures undone { Undone result (S.Sink.list sink.old) (S.Sink.list sink.new) }
 {
     parser.emit::<M, S>(text, text::whole(text), sink)
 }
@@ -66,7 +53,7 @@ pub fn emit_into<I: Copy, E: ParseError, T: Text, M: Manner + Drop, P: Parser<T,
     manner: M,
     places: &mut [I],
 ) -> Emitted<P::Output, E>
-    ensures { λ r. ⌜ Emits (P·Parser .means (now (parser .entry)) (T·Text .cells (now (text .entry))) (all (T·Text .cells (now (text .entry)))) (M·Manner .complete)) (sheet-cap (now (places .entry))) [] (r .answer) (front (r .count) (now (places .exit))) ⌝ }
+    ensures { Emits (P.Parser.means parser.now (T.Text.cells text.now) (all (T.Text.cells text.now)) M.Manner.complete) (sheet_cap places.old) [] result.answer (front result.count places.new) }
 {
     let mut sheet = Sheet::new(places);
     let answer = emit(parser, text, manner, &mut sheet);

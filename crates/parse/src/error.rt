@@ -1,16 +1,14 @@
 // Errors: what went wrong, and where. nom's `error.rs`.
-ghost use denote.Ref.{now};
-ghost use mathlib.Core.Path.{_≡_, refl};
-ghost use Rattle·std.specs.Orderings.{Decides};
-ghost use Rattle·std.specs.declared.option.Option.the-variants.{Some, None};
-ghost use Rattle·text.specs.declared.Span.{Span};
-ghost use Rattle·parse·specs.declared.error.ErrorKind.{ErrorKind};
-ghost use Rattle·parse·specs.Errors.{number-of, further, further-associates};
+ghost use Rattle.std.specs.Prelude.{◌≡◌, Some, None, Decides, refl};
+ghost use Rattle.text.specs.declared.Span.{Span};
+ghost use Rattle.parse.specs.declared.error.ErrorKind.{ErrorKind};
+ghost use Rattle.parse.specs.Errors.{number_of, further, further_associates};
+ghost use Rattle.std.specs.Cmp.Rules.{comparing};
+ghost use Rattle.std.proofs.Common.{rules};
+ghost use Rattle.std.specs.Cmp as Keys;
+
 use std::fmt;
 use text::Span;
-use text::SpanDebug;
-use text::SpanEq;
-use text::SpanPartialEq;
 
 // Which parser an error comes from: nom's kinds, as far as the parsers here use them, with nom's numbers.
 #[derive(Clone, Copy, Debug)]
@@ -42,7 +40,7 @@ pub enum ErrorKind {
 
 // The number of a kind, as nom has it.
 pub fn error_to_u32(kind: ErrorKind) -> u32
-    ensures { λ r. ⌜ r ≡ number-of kind ⌝ }
+    ensures { result ≡ number_of kind }
 {
     match kind {
         ErrorKind::Tag => 1,
@@ -72,15 +70,19 @@ pub fn error_to_u32(kind: ErrorKind) -> u32
 }
 
 // Kinds are told apart by their numbers, since no two have the same one.
-pub impl PartialEq<ErrorKind> for ErrorKind as ErrorKindPartialEq {
+impl PartialEq for ErrorKind {
     ghost equals = { λ a b r. Decides r (a ≡ b) };
+
+    ghost laws = { Keys.partial_equiv_from_equiv (Prim.search (comparing, rules)) };
 
     fn eq(&self, other: &ErrorKind) -> bool {
         error_to_u32(*self) == error_to_u32(*other)
     }
 }
 
-pub impl Eq for ErrorKind as ErrorKindEq {}
+impl Eq for ErrorKind {
+    ghost laws = { Prim.search (comparing, rules) };
+}
 
 // An error that a parser can give. Its functions are pure: each is one of its ghost members.
 pub trait ParseError: Drop + Sized {
@@ -94,13 +96,13 @@ pub trait ParseError: Drop + Sized {
     ghost associates: { (a b c : Self) → joined (joined a b) c ≡ joined a (joined b c) };
 
     fn from_error_kind(input: Span, kind: ErrorKind) -> Self
-        ensures { λ r. ⌜ r ≡ made input kind ⌝ };
+        ensures { result ≡ made input kind };
 
     fn append(input: Span, kind: ErrorKind, other: Self) -> Self
-        ensures { λ r. ⌜ r ≡ appended input kind other ⌝ };
+        ensures { result ≡ appended input kind other };
 
     fn or(self, other: Self) -> Self
-        ensures { λ r. ⌜ r ≡ joined self other ⌝ };
+        ensures { result ≡ joined self other };
 }
 
 // An error that can be made from one of another type, as a function that is mapped over an output gives it.
@@ -108,7 +110,7 @@ pub trait FromExternalError<X>: Sized {
     ghost external: { Span → ErrorKind → X → Self };
 
     fn from_external_error(input: Span, kind: ErrorKind, error: X) -> Self
-        ensures { λ r. ⌜ r ≡ external input kind error ⌝ };
+        ensures { result ≡ external input kind error };
 }
 
 // The error with the kind and the place of the innermost parser; of two ways the later one's.
@@ -118,7 +120,7 @@ pub struct Error {
     pub code: ErrorKind,
 }
 
-pub impl ParseError for Error as ErrorParseError {
+impl ParseError for Error {
     ghost made = { λ s k. record { input = s; code = k } };
 
     ghost appended = { λ _ _ e. e };
@@ -140,7 +142,7 @@ pub impl ParseError for Error as ErrorParseError {
     }
 }
 
-pub impl<X: Drop> FromExternalError<X> for Error as ErrorFromExternalError {
+impl<X: Drop> FromExternalError<X> for Error {
     ghost external = { λ s k _. record { input = s; code = k } };
 
     fn from_external_error(input: Span, kind: ErrorKind, _error: X) -> Error {
@@ -148,7 +150,7 @@ pub impl<X: Drop> FromExternalError<X> for Error as ErrorFromExternalError {
     }
 }
 
-pub impl fmt::Display for Error as ErrorDisplay {
+impl fmt::Display for Error {
     fn fmt<W: fmt::Write>(&self, f: &mut fmt::Formatter<W>) -> fmt::Result {
         let code = self.code;
         let start = self.input.start;
@@ -158,7 +160,7 @@ pub impl fmt::Display for Error as ErrorDisplay {
 }
 
 // The same as a pair.
-pub impl ParseError for (Span, ErrorKind) as PairParseError {
+impl ParseError for (Span, ErrorKind) {
     ghost made = { λ s k. (s, k) };
 
     ghost appended = { λ _ _ e. e };
@@ -180,7 +182,7 @@ pub impl ParseError for (Span, ErrorKind) as PairParseError {
     }
 }
 
-pub impl<X: Drop> FromExternalError<X> for (Span, ErrorKind) as PairFromExternalError {
+impl<X: Drop> FromExternalError<X> for (Span, ErrorKind) {
     ghost external = { λ s k _. (s, k) };
 
     fn from_external_error(input: Span, kind: ErrorKind, _error: X) -> (Span, ErrorKind) {
@@ -189,7 +191,7 @@ pub impl<X: Drop> FromExternalError<X> for (Span, ErrorKind) as PairFromExternal
 }
 
 // No more than that there was an error.
-pub impl ParseError for () as UnitParseError {
+impl ParseError for () {
     ghost made = { λ _ _. tt };
 
     ghost appended = { λ _ _ _. tt };
@@ -205,7 +207,7 @@ pub impl ParseError for () as UnitParseError {
     fn or(self, _other: ()) {}
 }
 
-pub impl<X: Drop> FromExternalError<X> for () as UnitFromExternalError {
+impl<X: Drop> FromExternalError<X> for () {
     ghost external = { λ _ _ _. tt };
 
     fn from_external_error(_input: Span, _kind: ErrorKind, _error: X) {}
@@ -220,14 +222,14 @@ pub struct Far {
     pub latest: Option<ErrorKind>,
 }
 
-pub impl ParseError for Far as FarParseError {
+impl ParseError for Far {
     ghost made = { λ s k. record { input = s; code = k; latest = None } };
 
-    ghost appended = { λ _ k e. record { input = e .input; code = e .code; latest = Some k } };
+    ghost appended = { λ _ k e. record { input = e.input; code = e.code; latest = Some k } };
 
     ghost joined = { further };
 
-    ghost associates = { further-associates };
+    ghost associates = { further_associates };
 
     fn from_error_kind(input: Span, kind: ErrorKind) -> Far {
         Far {
@@ -254,7 +256,7 @@ pub impl ParseError for Far as FarParseError {
     }
 }
 
-pub impl<X: Drop> FromExternalError<X> for Far as FarFromExternalError {
+impl<X: Drop> FromExternalError<X> for Far {
     ghost external = { λ s k _. record { input = s; code = k; latest = None } };
 
     fn from_external_error(input: Span, kind: ErrorKind, _error: X) -> Far {

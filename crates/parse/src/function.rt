@@ -1,9 +1,7 @@
 // Functions that a parser applies: what nom takes closures for.
-ghost use denote.Ref.{now};
-ghost use mathlib.Core.Path.{_≡_};
-ghost use mathlib.Core.Bool.{Bool};
-ghost use mathlib.Core.List.{List};
-ghost use Rattle·text.specs.Cells.{Cell};
+ghost use Rattle.std.specs.Prelude.{◌≡◌, Bool, List};
+ghost use Rattle.text.specs.Cells.{Cell};
+
 use text::Text;
 
 // A pure function of an output: to map it, to make a parser of it, or to keep it as an item. It is handed the text
@@ -11,10 +9,10 @@ use text::Text;
 pub trait Function<T: Text, A> {
     type Value: Drop;
 
-    ghost value: { Self → List Cell → A → Self·Value };
+    ghost value: { Self → List Cell → A → Self.Value };
 
     fn call(&self, text: &T, argument: A) -> Self::Value
-        ensures { λ r. ⌜ r ≡ value (now (self .entry)) (T·Text .cells (now (text .entry))) argument ⌝ };
+        ensures { result ≡ value self.now (T.Text.cells text.now) argument };
 }
 
 // A pure test of an output, likewise.
@@ -22,5 +20,5 @@ pub trait Test<T: Text, A> {
     ghost passes: { Self → List Cell → A → Bool };
 
     fn test(&self, text: &T, output: &A) -> bool
-        ensures { λ r. ⌜ r ≡ passes (now (self .entry)) (T·Text .cells (now (text .entry))) (now (output .entry)) ⌝ };
+        ensures { result ≡ passes self.now (T.Text.cells text.now) output.now };
 }

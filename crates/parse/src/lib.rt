@@ -7,64 +7,24 @@
 //
 // A leaf says its meaning by a definition on the items; a combinator says its own by the algebra of runs
 // (specs/Algebra.antt) from the meanings of its parts, and is proved once for all parts.
-ghost use Prim.Native.Nat.{ℕ};
-ghost use denote.Ref.{now};
-ghost use mathlib.Core.Path.{_≡_};
-ghost use mathlib.Core.Bool.{Bool};
-ghost use mathlib.Core.List.{List};
-ghost use lib.ListN.{take as front};
-ghost use Rattle·std.specs.declared.result.Result.the-variants.{Err};
-ghost use Rattle·text.specs.declared.Span.{Span};
-ghost use Rattle·text.specs.Cells.{Cell, Solid, Within};
-ghost use Rattle·parse·specs.Run.{Run, Suffix, Checks, Emits, told};
-ghost use Rattle·parse·specs.Subspans.{Inside};
-ghost use Rattle·parse·specs.Faults.{erring, short, orAnswer};
-use sink::Mark;
-use sink::Sink;
+ghost use Rattle.std.specs.Prelude.{◌≡◌, ℕ, Bool, List, take as front, Err};
+ghost use Rattle.text.specs.declared.Span.{Span};
+ghost use Rattle.text.specs.Cells.{Cell, Solid, Within};
+ghost use Rattle.parse.specs.Run.{Run, Suffix, Checks, Emits, told};
+ghost use Rattle.parse.specs.Subspans.{Inside};
+ghost use Rattle.parse.specs.Faults.{erring, short, or_answer};
+
+use sink::{Mark, Sink};
 use std::fmt;
-use text::Manner;
-use text::Needed;
-use text::Span;
-use text::Text;
+use text::{Manner, Needed, Span, Text};
 
 pub mod calls;
 pub mod error;
 pub mod function;
 
-pub use calls::Emitted;
-pub use calls::check;
-pub use calls::emit;
-pub use calls::emit_into;
-pub use error::Error;
-pub use error::ErrorDebug;
-pub use error::ErrorDisplay;
-pub use error::ErrorEq;
-pub use error::ErrorFromExternalError;
-pub use error::ErrorKind;
-pub use error::ErrorKindDebug;
-pub use error::ErrorKindEq;
-pub use error::ErrorKindPartialEq;
-pub use error::ErrorParseError;
-pub use error::ErrorPartialEq;
-pub use error::Far;
-pub use error::FarDebug;
-pub use error::FarEq;
-pub use error::FarFromExternalError;
-pub use error::FarParseError;
-pub use error::FarPartialEq;
-pub use error::FromExternalError;
-pub use error::PairFromExternalError;
-pub use error::PairParseError;
-pub use error::ParseError;
-pub use error::UnitFromExternalError;
-pub use error::UnitParseError;
-pub use error::error_to_u32;
-pub use function::Function;
-pub use function::Test;
-use text::NeededDebug;
-use text::NeededPartialEq;
-use text::SpanDebug;
-use text::SpanPartialEq;
+pub use calls::{Emitted, check, emit, emit_into};
+pub use error::{Error, ErrorKind, Far, FromExternalError, ParseError, error_to_u32};
+pub use function::{Function, Test};
 
 // Why a parser is not done: nom's `Err`, and `Full`.
 #[derive(PartialEq, Eq, Debug, Drop)]
@@ -81,7 +41,7 @@ pub enum Fault<E> {
 
 impl<E> Fault<E> {
     pub fn is_incomplete(&self) -> bool
-        ensures { λ r. ⌜ r ≡ short (now (self .entry)) ⌝ }
+        ensures { result ≡ short self.now }
     {
         match self {
             Fault::Incomplete(_) => true,
@@ -91,7 +51,7 @@ impl<E> Fault<E> {
 
     // Whether another way may be tried.
     pub fn is_error(&self) -> bool
-        ensures { λ r. ⌜ r ≡ erring (now (self .entry)) ⌝ }
+        ensures { result ≡ erring self.now }
     {
         match self {
             Fault::Error(_) => true,
@@ -101,7 +61,7 @@ impl<E> Fault<E> {
 }
 
 // In nom's words.
-pub impl<E: fmt::Debug> fmt::Display for Fault<E> as FaultDisplay {
+impl<E: fmt::Debug> fmt::Display for Fault<E> {
     fn fmt<W: fmt::Write>(&self, f: &mut fmt::Formatter<W>) -> fmt::Result {
         match self {
             Fault::Incomplete(needed) => match needed {
@@ -130,7 +90,7 @@ pub struct Checked<O, E> {
 impl<O, E> Checked<O, E> {
     // A fault, after so many items stood at one moment.
     pub fn stopped(fault: Fault<E>, peak: u32) -> Checked<O, E>
-        ensures { λ r. ⌜ r ≡ record { answer = Err fault; count = 0; peak = peak } ⌝ }
+        ensures { result ≡ record { answer = Err fault; count = 0; peak = peak } }
     {
         Checked {
             answer: Err(fault),
@@ -146,13 +106,13 @@ pub trait Parser<T: Text, I: Copy, E: ParseError> {
     type Output: Drop;
 
     // the parser's meaning, for a text's items, a span and a manner (true is `Complete`)
-    ghost means: { Self → List Cell → Span → Bool → Run Self·Output I E };
+    ghost means: { Self → List Cell → Span → Bool → Run Self.Output I E };
     // what each implementation proves: a remainder lies in the text, starts no earlier than the span, and ends where it ends
-    ghost suffix: { (p : Self) (cs : List Cell) (s : Span) (c : Bool) → Solid cs → Within cs (s .start) (s .end) → Suffix cs s (means p cs s c .outcome) };
+    ghost suffix: { (p : Self) (cs : List Cell) (s : Span) (c : Bool) → Solid cs → Within cs s.start s.end → Suffix cs s (means p cs s c).outcome };
 
     fn check<M: Manner>(&self, text: &T, span: Span) -> Checked<Self::Output, E>
-        requires { ⌜ Within (T·Text .cells (now text)) (span .start) (span .end) ⌝ }
-        ensures { λ r. ⌜ Checks (means (now (self .entry)) (T·Text .cells (now (text .entry))) span (M·Manner .complete)) (r .answer) (r .count) (r .peak) ⌝ };
+        requires { Within (T.Text.cells text.now) span.start span.end }
+        ensures { Checks (means self.now (T.Text.cells text.now) span M.Manner.complete) result.answer result.count result.peak };
 
     fn emit<M: Manner, S: Sink<Item = I>>(
         &self,
@@ -160,10 +120,10 @@ pub trait Parser<T: Text, I: Copy, E: ParseError> {
         span: Span,
         sink: &mut S,
     ) -> Result<(Span, Self::Output), Fault<E>>
-        requires { ⌜ Within (T·Text .cells (now text)) (span .start) (span .end) ⌝ }
-        ensures cap { λ _. ⌜ S·Sink .cap (now (sink .exit)) ≡ S·Sink .cap (now (sink .entry)) ⌝ }
-        ensures lent { λ _. ⌜ S·Sink .lent (now (sink .exit)) ≡ S·Sink .lent (now (sink .entry)) ⌝ }
-        ensures emits { λ r. ⌜ Emits (means (now (self .entry)) (T·Text .cells (now (text .entry))) span (M·Manner .complete)) (S·Sink .cap (now (sink .entry))) (S·Sink .list (now (sink .entry))) r (S·Sink .list (now (sink .exit))) ⌝ };
+        requires { Within (T.Text.cells text.now) span.start span.end }
+        ensures cap { S.Sink.cap sink.new ≡ S.Sink.cap sink.old }
+        ensures lent { S.Sink.lent sink.new ≡ S.Sink.lent sink.old }
+        ensures emits { Emits (means self.now (T.Text.cells text.now) span M.Manner.complete) (S.Sink.cap sink.old) (S.Sink.list sink.old) result (S.Sink.list sink.new) };
 }
 
 // A parser, by its check alone, whose output is a span inside its own: what another parser can then be run on.
@@ -171,12 +131,12 @@ pub trait Subspan<T: Text, I: Copy, E: ParseError> {
     // its meaning, as a parser's; the items are dropped
     ghost cuts: { Self → List Cell → Span → Bool → Run Span I E };
     // what each implementation proves: the output lies inside the span, and the remainder is one of the span
-    ghost inside: { (p : Self) (cs : List Cell) (s : Span) (c : Bool) → Solid cs → Within cs (s .start) (s .end) → Inside cs s (cuts p cs s c .outcome) };
+    ghost inside: { (p : Self) (cs : List Cell) (s : Span) (c : Bool) → Solid cs → Within cs s.start s.end → Inside cs s (cuts p cs s c).outcome };
 
     // The remainder and the span that is cut out.
     fn cut<M: Manner>(&self, text: &T, span: Span) -> Result<(Span, Span), Fault<E>>
-        requires { ⌜ Within (T·Text .cells (now text)) (span .start) (span .end) ⌝ }
-        ensures { λ r. ⌜ r ≡ told (cuts (now (self .entry)) (T·Text .cells (now (text .entry))) span (M·Manner .complete) .outcome) ⌝ };
+        requires { Within (T.Text.cells text.now) span.start span.end }
+        ensures { result ≡ told (cuts self.now (T.Text.cells text.now) span M.Manner.complete).outcome };
 }
 
 // The answer of a second way after the error of a first: where it is an error too, both joined.
@@ -184,7 +144,7 @@ pub fn join_answer<O, E: ParseError>(
     first: E,
     answer: Result<(Span, O), Fault<E>>,
 ) -> Result<(Span, O), Fault<E>>
-    ensures { λ r. ⌜ r ≡ orAnswer (E·ParseError .joined first) answer ⌝ }
+    ensures { result ≡ or_answer (E.ParseError.joined first) answer }
 {
     match answer {
         Ok(done) => Ok(done),
@@ -197,10 +157,10 @@ pub fn join_answer<O, E: ParseError>(
 
 // Cuts a sink back to where a parser found it, and passes the fault up.
 pub fn undo<S: Sink, O, E>(sink: &mut S, mark: Mark, fault: Fault<E>) -> Result<O, Fault<E>>
-    ensures answer { λ r. ⌜ r ≡ Err fault ⌝ }
-    ensures cap { λ _. ⌜ S·Sink .cap (now (sink .exit)) ≡ S·Sink .cap (now (sink .entry)) ⌝ }
-    ensures lent { λ _. ⌜ S·Sink .lent (now (sink .exit)) ≡ S·Sink .lent (now (sink .entry)) ⌝ }
-    ensures list { λ _. ⌜ S·Sink .list (now (sink .exit)) ≡ front (mark .len) (S·Sink .list (now (sink .entry))) ⌝ }
+    ensures answer { result ≡ Err fault }
+    ensures cap { S.Sink.cap sink.new ≡ S.Sink.cap sink.old }
+    ensures lent { S.Sink.lent sink.new ≡ S.Sink.lent sink.old }
+    ensures list { S.Sink.list sink.new ≡ front mark.len (S.Sink.list sink.old) }
 {
     // the mark is of this sink's list, so it is not refused
     let _ = sink.cut_back(mark);

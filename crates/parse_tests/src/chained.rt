@@ -1,29 +1,11 @@
 // A second part that hangs on the first's output.
-use crate::parts::Again;
-use crate::parts::AgainFunction;
-use crate::parts::digit;
-use crate::runs::Outcome;
-use crate::runs::Row;
-use crate::runs::run_rows;
+use crate::parts::{Again, digit};
+use crate::runs::{Outcome, Row, run_rows};
 use demo::Before;
-use demo::BeforeSubspan;
-use demo::DigitPredicate;
-use demo::SatisfyParser;
 use parse::ErrorKind;
-use parse::ErrorParseError;
-use sequence::AndParser;
-use sequence::AndThenParser;
-use sequence::AnyParserExt;
-use sequence::FlatMapParser;
-use sequence::ParserExt;
-use sequence::pair;
-use std::test::*;
-use text::ByteTextText;
-use text::Complete;
-use text::CompleteManner;
-use text::IsPredicate;
-use text::Streaming;
-use text::StreamingManner;
+use sequence::{ParserExt, pair};
+use std::test::Fail;
+use text::{Complete, Streaming};
 
 // A digit, and the same once more. The first item is dropped, and never stands.
 const TWICE: [Row<u32>; 4] = [
@@ -40,10 +22,10 @@ const TWICE_STREAMING: [Row<u32>; 3] = [
 ];
 
 #[test]
-fn flat_map() -> Result<(), Fail> {
+fn flat_map(rt: HostRuntime) -> Result<(), Fail> {
     let twice = digit().flat_map(Again);
-    run_rows(&twice, Complete, &TWICE)?;
-    run_rows(&twice, Streaming, &TWICE_STREAMING)
+    run_rows(&rt, &twice, Complete, &TWICE)?;
+    run_rows(&rt, &twice, Streaming, &TWICE_STREAMING)
 }
 
 // A digit in what comes before a comma. What it leaves of that is dropped.
@@ -68,10 +50,10 @@ const TWO_BEFORE_COMMA_STREAMING: [Row<(u32, u32)>; 3] = [
 ];
 
 #[test]
-fn and_then() -> Result<(), Fail> {
+fn and_then(rt: HostRuntime) -> Result<(), Fail> {
     let before = Before { code: 44 };
-    run_rows(&before.and_then(digit()), Complete, &BEFORE_COMMA)?;
+    run_rows(&rt, &before.and_then(digit()), Complete, &BEFORE_COMMA)?;
     let two = before.and_then(pair(digit(), digit()));
-    run_rows(&two, Complete, &TWO_BEFORE_COMMA)?;
-    run_rows(&two, Streaming, &TWO_BEFORE_COMMA_STREAMING)
+    run_rows(&rt, &two, Complete, &TWO_BEFORE_COMMA)?;
+    run_rows(&rt, &two, Streaming, &TWO_BEFORE_COMMA_STREAMING)
 }

@@ -1,36 +1,12 @@
 // The same builds over texts of code points.
 use crate::parts::digit;
-use crate::runs::Outcome;
-use crate::runs::Row;
-use crate::runs::run;
-use crate::runs::run_rows;
-use demo::Before;
-use demo::BeforeSubspan;
-use demo::DigitPredicate;
-use demo::DigitValueFunction;
-use demo::Satisfy;
-use demo::SatisfyParser;
-use demo::line;
+use crate::runs::{Outcome, Row, run, run_rows};
+use demo::{Before, Satisfy, line};
 use parse::ErrorKind;
-use parse::ErrorParseError;
-use sequence::AndParser;
-use sequence::AndThenParser;
-use sequence::AnyParserExt;
-use sequence::MapParser;
-use sequence::OrParser;
-use sequence::ParserExt;
-use sequence::PrecededParser;
-use sequence::pair;
-use std::test::*;
-use text::ByteTextText;
-use text::Complete;
-use text::CompleteManner;
-use text::Is;
-use text::IsPredicate;
-use text::Streaming;
-use text::StreamingManner;
+use sequence::{ParserExt, pair};
+use std::test::Fail;
+use text::{Complete, Is, Streaming};
 use utf8::Utf8Text;
-use utf8::Utf8TextText;
 
 // The code of `€`, which has three bytes.
 const EURO: u32 = 0x20AC;
@@ -48,7 +24,7 @@ const EURO_STREAMING: Row<(u32, u32)> = ("€", Outcome::Incomplete(1), 1, &[]);
 const PRICES_IN_BYTES: [Row<(u32, u32)>; 1] = [("€5", Outcome::Error(0, ErrorKind::IsA), 0, &[])];
 
 #[test]
-fn an_item_of_three_bytes() -> Result<(), Fail> {
+fn an_item_of_three_bytes(rt: HostRuntime) -> Result<(), Fail> {
     let price = pair(
         Satisfy {
             test: Is { code: EURO },
@@ -57,15 +33,16 @@ fn an_item_of_three_bytes() -> Result<(), Fail> {
     );
     for row in PRICES {
         let text = Utf8Text::new(row.0.as_bytes());
-        run(&price, &text, Complete, &row).note(row.0)?;
+        run(&rt, &price, &text, Complete, &row).note(row.0)?;
     }
     run(
+        &rt,
         &price,
         &Utf8Text::new("€".as_bytes()),
         Streaming,
         &EURO_STREAMING,
     )?;
-    run_rows(&price, Complete, &PRICES_IN_BYTES)
+    run_rows(&rt, &price, Complete, &PRICES_IN_BYTES)
 }
 
 const BEFORE_EURO: [Row<u32>; 3] = [
@@ -75,11 +52,11 @@ const BEFORE_EURO: [Row<u32>; 3] = [
 ];
 
 #[test]
-fn before_an_item_of_three_bytes() -> Result<(), Fail> {
+fn before_an_item_of_three_bytes(rt: HostRuntime) -> Result<(), Fail> {
     let build = Before { code: EURO }.and_then(digit());
     for row in BEFORE_EURO {
         let text = Utf8Text::new(row.0.as_bytes());
-        run(&build, &text, Complete, &row).note(row.0)?;
+        run(&rt, &build, &text, Complete, &row).note(row.0)?;
     }
     Ok(())
 }
@@ -95,10 +72,10 @@ const LINE: [Row<((u32, u32), (u32, u32))>; 2] = [
 ];
 
 #[test]
-fn a_nested_build() -> Result<(), Fail> {
+fn a_nested_build(rt: HostRuntime) -> Result<(), Fail> {
     for row in LINE {
         let text = Utf8Text::new(row.0.as_bytes());
-        run(&line(), &text, Complete, &row).note(row.0)?;
+        run(&rt, &line(), &text, Complete, &row).note(row.0)?;
     }
     Ok(())
 }

@@ -1,34 +1,10 @@
 // Errors: what is kept of them, and in which words.
-use parse::Error;
-use parse::ErrorDebug;
-use parse::ErrorDisplay;
-use parse::ErrorFromExternalError;
-use parse::ErrorKind;
-use parse::ErrorKindDebug;
-use parse::ErrorKindPartialEq;
-use parse::ErrorParseError;
-use parse::ErrorPartialEq;
-use parse::Far;
-use parse::FarDebug;
-use parse::FarFromExternalError;
-use parse::FarParseError;
-use parse::FarPartialEq;
-use parse::Fault;
-use parse::FaultDisplay;
-use parse::FromExternalError;
-use parse::PairFromExternalError;
-use parse::PairParseError;
-use parse::ParseError;
-use parse::UnitFromExternalError;
-use parse::UnitParseError;
-use parse::error_to_u32;
+use parse::{Error, ErrorKind, Far, Fault, FromExternalError, ParseError, error_to_u32};
 use std::alloc::Global;
 use std::fmt::Debug;
-use std::test::*;
-use text::Needed;
-use text::Span;
-use text::SpanDebug;
-use text::SpanPartialEq;
+use std::process::Abort;
+use std::test::Fail;
+use text::{Needed, Span};
 
 const NUMBERS: [(ErrorKind, u32); 23] = [
     (ErrorKind::Tag, 1),
@@ -57,12 +33,11 @@ const NUMBERS: [(ErrorKind, u32); 23] = [
 ];
 
 #[test]
-fn numbers_of_kinds() -> Result<(), Fail> {
+fn numbers_of_kinds(rt: HostRuntime) {
     for (kind, number) in NUMBERS {
-        check_eq(error_to_u32(kind), number)?;
-        check_eq(kind == ErrorKind::IsA, number == 6)?;
+        assert_eq!(rt; error_to_u32(kind), number);
+        assert_eq!(rt; kind == ErrorKind::IsA, number == 6);
     }
-    Ok(())
 }
 
 fn span(start: usize) -> Span {
@@ -87,104 +62,120 @@ const FURTHER: [(usize, usize, bool); 5] = [
 ];
 
 #[test]
-fn far_keeps_the_furthest() -> Result<(), Fail> {
+fn far_keeps_the_furthest(rt: HostRuntime) {
     for (first, second, kept) in FURTHER {
         let one = far(first, ErrorKind::Tag, Some(ErrorKind::Alt));
         let two = far(second, ErrorKind::IsA, Some(ErrorKind::Many0));
-        check_eq(one.or(two), if kept { one } else { two })?;
+        assert_eq!(rt; one.or(two), if kept { one } else { two });
     }
-    Ok(())
 }
 
 #[test]
-fn far_keeps_the_latest_kind() -> Result<(), Fail> {
+fn far_keeps_the_latest_kind(rt: HostRuntime) {
     let made = Far::from_error_kind(span(3), ErrorKind::IsA);
-    check_eq(made, far(3, ErrorKind::IsA, None))?;
+    assert_eq!(rt; made, far(3, ErrorKind::IsA, None));
     let once = Far::append(span(2), ErrorKind::Many1, made);
-    check_eq(once, far(3, ErrorKind::IsA, Some(ErrorKind::Many1)))?;
+    assert_eq!(rt; once, far(3, ErrorKind::IsA, Some(ErrorKind::Many1)));
     let twice = Far::append(span(0), ErrorKind::Alt, once);
-    check_eq(twice, far(3, ErrorKind::IsA, Some(ErrorKind::Alt)))
+    assert_eq!(rt; twice, far(3, ErrorKind::IsA, Some(ErrorKind::Alt)));
 }
 
 // The other errors keep what was made, and of two the later.
 #[test]
-fn plain_errors() -> Result<(), Fail> {
+fn plain_errors(rt: HostRuntime) {
     let first = Error::from_error_kind(span(3), ErrorKind::IsA);
     let second = Error::from_error_kind(span(1), ErrorKind::Tag);
-    check_eq(
+    assert_eq!(rt;
         first,
         Error {
             input: span(3),
             code: ErrorKind::IsA,
-        },
-    )?;
-    check_eq(Error::append(span(0), ErrorKind::Alt, first), first)?;
-    check_eq(first.or(second), second)?;
-    let first = PairParseError::from_error_kind(span(3), ErrorKind::IsA);
-    let second = PairParseError::from_error_kind(span(1), ErrorKind::Tag);
-    check_eq(first, (span(3), ErrorKind::IsA))?;
-    check_eq(
-        PairParseError::append(span(0), ErrorKind::Alt, first),
-        first,
-    )?;
-    check_eq(first.or(second), second)?;
-    let unit = UnitParseError::from_error_kind(span(3), ErrorKind::IsA);
-    check_eq(UnitParseError::append(span(0), ErrorKind::Alt, unit), ())?;
-    check_eq(unit.or(()), ())
+        }
+    );
+    assert_eq!(rt; Error::append(span(0), ErrorKind::Alt, first), first);
+    assert_eq!(rt; first.or(second), second);
+    let first = <(Span, ErrorKind) as ParseError>::from_error_kind(span(3), ErrorKind::IsA);
+    let second = <(Span, ErrorKind) as ParseError>::from_error_kind(span(1), ErrorKind::Tag);
+    assert_eq!(rt; first, (span(3), ErrorKind::IsA));
+    assert_eq!(rt;
+        <(Span, ErrorKind) as ParseError>::append(span(0), ErrorKind::Alt, first),
+        first
+    );
+    assert_eq!(rt; first.or(second), second);
+    let unit = <() as ParseError>::from_error_kind(span(3), ErrorKind::IsA);
+    assert_eq!(rt;
+        <() as ParseError>::append(span(0), ErrorKind::Alt, unit),
+        ()
+    );
+    assert_eq!(rt; unit.or(()), ());
 }
 
 #[test]
-fn errors_of_other_types() -> Result<(), Fail> {
-    check_eq(
+fn errors_of_other_types(rt: HostRuntime) {
+    assert_eq!(rt;
         Error::from_external_error(span(3), ErrorKind::MapRes, 7u8),
         Error {
             input: span(3),
             code: ErrorKind::MapRes,
-        },
-    )?;
-    check_eq(
+        }
+    );
+    assert_eq!(rt;
         Far::from_external_error(span(3), ErrorKind::MapRes, "odd"),
-        far(3, ErrorKind::MapRes, None),
-    )?;
-    check_eq(
-        PairFromExternalError::from_external_error(span(3), ErrorKind::MapRes, 7u8),
-        (span(3), ErrorKind::MapRes),
-    )?;
-    check_eq(
-        UnitFromExternalError::from_external_error(span(3), ErrorKind::MapRes, 7u8),
-        (),
-    )
+        far(3, ErrorKind::MapRes, None)
+    );
+    assert_eq!(rt;
+        <(Span, ErrorKind) as FromExternalError<_>>::from_external_error(
+            span(3),
+            ErrorKind::MapRes,
+            7u8
+        ),
+        (span(3), ErrorKind::MapRes)
+    );
+    assert_eq!(rt;
+        <() as FromExternalError<_>>::from_external_error(span(3), ErrorKind::MapRes, 7u8),
+        ()
+    );
 }
 
-fn check_words<E: Debug>(heap: Global, fault: &Fault<E>, words: &str) -> Result<(), Fail> {
-    check(format!(heap, "{fault}")?.as_str() == words)
+fn check_words<E: Debug>(
+    rt: &impl Abort,
+    heap: Global,
+    fault: &Fault<E>,
+    words: &str,
+) -> Result<(), Fail> {
+    assert!(rt; format!(in heap; "{fault}")?.as_str() == words);
+    Ok(())
 }
 
 #[test]
-fn faults_in_words(rt: LibcRuntime) -> Result<(), Fail> {
+fn faults_in_words(rt: HostRuntime) -> Result<(), Fail> {
     let heap = rt.alloc();
     let error = Error {
         input: span(4),
         code: ErrorKind::IsA,
     };
-    check(format!(heap, "{error}")?.as_str() == "error IsA at: 4..9")?;
+    assert!(rt; format!(in heap; "{error}")?.as_str() == "error IsA at: 4..9");
     check_words(
+        &rt,
         heap,
         &Fault::Error(error),
         "Parsing Error: Error { input: Span { start: 4, end: 9 }, code: IsA }",
     )?;
-    check_words(heap, &Fault::Failure(()), "Parsing Failure: ()")?;
+    check_words(&rt, heap, &Fault::Failure(()), "Parsing Failure: ()")?;
     check_words(
+        &rt,
         heap,
         &Fault::<()>::Incomplete(Needed::new(2)),
         "Parsing requires 2 bytes/chars",
     )?;
     check_words(
+        &rt,
         heap,
         &Fault::<()>::Incomplete(Needed::Unknown),
         "Parsing requires more data",
     )?;
     check_words(
+        &rt,
         heap,
         &Fault::<()>::Full,
         "Parsing needs more places in the sink",

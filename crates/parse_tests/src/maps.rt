@@ -1,32 +1,11 @@
 // Functions on outputs.
-use crate::parts::Rising;
-use crate::parts::RisingFunction;
-use crate::parts::Small;
-use crate::parts::SmallFunction;
-use crate::parts::digit;
-use crate::runs::Outcome;
-use crate::runs::Row;
-use crate::runs::run_rows;
-use demo::DigitPredicate;
+use crate::parts::{Rising, Small, digit};
+use crate::runs::{Outcome, Row, run_rows};
 use demo::DigitValue;
-use demo::DigitValueFunction;
-use demo::SatisfyParser;
 use parse::ErrorKind;
-use parse::ErrorParseError;
-use parse::error::ErrorFromExternalError;
-use sequence::AndParser;
-use sequence::AnyParserExt;
-use sequence::MapOptParser;
-use sequence::MapParser;
-use sequence::MapResParser;
-use sequence::ParserExt;
-use sequence::pair;
-use std::test::*;
-use text::ByteTextText;
-use text::Complete;
-use text::CompleteManner;
-use text::Streaming;
-use text::StreamingManner;
+use sequence::{ParserExt, pair};
+use std::test::Fail;
+use text::{Complete, Streaming};
 
 const VALUES: [Row<u32>; 3] = [
     ("7", Outcome::Done(1, 7), 1, &[55]),
@@ -35,8 +14,8 @@ const VALUES: [Row<u32>; 3] = [
 ];
 
 #[test]
-fn map() -> Result<(), Fail> {
-    run_rows(&digit().map(DigitValue), Complete, &VALUES)
+fn map(rt: HostRuntime) -> Result<(), Fail> {
+    run_rows(&rt, &digit().map(DigitValue), Complete, &VALUES)
 }
 
 // A refusal is an error at entry, and the item that stood is cut back.
@@ -48,8 +27,8 @@ const SMALL: [Row<u32>; 4] = [
 ];
 
 #[test]
-fn map_res() -> Result<(), Fail> {
-    run_rows(&digit().map_res(Small), Complete, &SMALL)
+fn map_res(rt: HostRuntime) -> Result<(), Fail> {
+    run_rows(&rt, &digit().map_res(Small), Complete, &SMALL)
 }
 
 const RISING: [Row<(u32, u32)>; 4] = [
@@ -60,8 +39,13 @@ const RISING: [Row<(u32, u32)>; 4] = [
 ];
 
 #[test]
-fn map_opt() -> Result<(), Fail> {
-    run_rows(&pair(digit(), digit()).map_opt(Rising), Complete, &RISING)
+fn map_opt(rt: HostRuntime) -> Result<(), Fail> {
+    run_rows(
+        &rt,
+        &pair(digit(), digit()).map_opt(Rising),
+        Complete,
+        &RISING,
+    )
 }
 
 // Entry is where the build itself starts, behind what came before.
@@ -72,8 +56,9 @@ const SECOND_SMALL: [Row<(u32, u32)>; 3] = [
 ];
 
 #[test]
-fn refused_behind_another() -> Result<(), Fail> {
+fn refused_behind_another(rt: HostRuntime) -> Result<(), Fail> {
     run_rows(
+        &rt,
         &pair(digit(), digit().map_res(Small)),
         Streaming,
         &SECOND_SMALL,

@@ -1,37 +1,10 @@
 // Three ways, nested both ways round.
-use crate::parts::Rising;
-use crate::parts::RisingFunction;
-use crate::parts::digit;
-use crate::parts::item;
-use demo::DigitPredicate;
-use demo::SatisfyParser;
-use parse::Checked;
-use parse::Error;
-use parse::ErrorDebug;
-use parse::ErrorKind;
-use parse::ErrorKindDebug;
-use parse::ErrorKindPartialEq;
-use parse::ErrorParseError;
-use parse::ErrorPartialEq;
-use parse::Far;
-use parse::FarDebug;
-use parse::FarParseError;
-use parse::FarPartialEq;
-use parse::Fault;
-use parse::ParseError;
-use sequence::AndParser;
-use sequence::AnyParserExt;
-use sequence::MapOptParser;
-use sequence::OrParser;
-use sequence::ParserExt;
-use sequence::pair;
+use crate::parts::{Rising, digit, item};
+use parse::{Checked, Error, ErrorKind, Far, Fault, ParseError};
+use sequence::{ParserExt, pair};
 use std::fmt::Debug;
-use std::test::*;
-use text::ByteText;
-use text::ByteTextText;
-use text::Complete;
-use text::CompleteManner;
-use text::IsPredicate;
+use std::process::Abort;
+use text::{ByteText, Complete};
 
 fn error_of<O: Drop, E: ParseError>(checked: Checked<O, E>) -> Option<E> {
     let Checked {
@@ -49,20 +22,21 @@ fn error_of<O: Drop, E: ParseError>(checked: Checked<O, E>) -> Option<E> {
 }
 
 // The error of three ways, whichever two are taken together: `ab`, `ac`, or two rising digits.
-fn three_ways<E: ParseError + PartialEq<E> + Debug + Copy>(
+fn three_ways<E: ParseError + PartialEq + Debug + Copy>(
+    rt: &impl Abort,
     text: &'static str,
-) -> Result<Option<E>, Fail> {
+) -> Option<E> {
     let text = ByteText::new(text.as_bytes());
     let first = pair(item(b'a'), item(b'b')).or(pair(item(b'a'), item(b'c')));
     let left = first.or(pair(digit(), digit()).map_opt(Rising));
     let second = pair(item(b'a'), item(b'c')).or(pair(digit(), digit()).map_opt(Rising));
     let right = pair(item(b'a'), item(b'b')).or(second);
     let error = error_of(parse::check::<u32, E, _, _, _>(&left, &text, Complete));
-    check_eq(
+    assert_eq!(rt;
         error_of(parse::check::<u32, E, _, _, _>(&right, &text, Complete)),
-        error,
-    )?;
-    Ok(error)
+        error
+    );
+    error
 }
 
 // A text, and where and what the error is: the last one, and the one that starts furthest on.
@@ -81,18 +55,17 @@ const THREE_WAYS: [(&str, Option<(usize, ErrorKind)>, Option<(usize, ErrorKind)>
 ];
 
 #[test]
-fn nestings_give_equal_errors() -> Result<(), Fail> {
+fn nestings_give_equal_errors(rt: HostRuntime) {
     for (text, last, furthest) in THREE_WAYS {
-        let error = match three_ways::<Error>(text)? {
+        let error = match three_ways::<Error>(&rt, text) {
             Some(e) => Some((e.input.start, e.code)),
             None => None,
         };
-        check_eq(error, last).note(text)?;
-        let error = match three_ways::<Far>(text)? {
+        assert_eq!(rt; error, last, "{}", text);
+        let error = match three_ways::<Far>(&rt, text) {
             Some(e) => Some((e.input.start, e.code)),
             None => None,
         };
-        check_eq(error, furthest).note(text)?;
+        assert_eq!(rt; error, furthest, "{}", text);
     }
-    Ok(())
 }

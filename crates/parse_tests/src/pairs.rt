@@ -1,32 +1,11 @@
 // One part after another.
-use crate::parts::digit;
-use crate::parts::item;
-use crate::runs::Outcome;
-use crate::runs::Row;
-use crate::runs::run_rows;
-use demo::DigitPredicate;
-use demo::DigitValueFunction;
-use demo::SatisfyParser;
+use crate::parts::{digit, item};
+use crate::runs::{Outcome, Row, run_rows};
 use demo::line;
 use parse::ErrorKind;
-use parse::ErrorParseError;
-use sequence::AndParser;
-use sequence::MapParser;
-use sequence::OrParser;
-use sequence::PrecededParser;
-use sequence::TerminatedParser;
-use sequence::delimited;
-use sequence::pair;
-use sequence::preceded;
-use sequence::separated_pair;
-use sequence::terminated;
-use std::test::*;
-use text::ByteTextText;
-use text::Complete;
-use text::CompleteManner;
-use text::IsPredicate;
-use text::Streaming;
-use text::StreamingManner;
+use sequence::{delimited, pair, preceded, separated_pair, terminated};
+use std::test::Fail;
+use text::{Complete, Streaming};
 
 const DIGIT: [Row<u32>; 4] = [
     ("7", Outcome::Done(1, 55), 1, &[55]),
@@ -36,8 +15,8 @@ const DIGIT: [Row<u32>; 4] = [
 ];
 
 #[test]
-fn one_item() -> Result<(), Fail> {
-    run_rows(&digit(), Complete, &DIGIT)
+fn one_item(rt: HostRuntime) -> Result<(), Fail> {
+    run_rows(&rt, &digit(), Complete, &DIGIT)
 }
 
 const AB: [Row<(u32, u32)>; 5] = [
@@ -56,10 +35,10 @@ const AB_STREAMING: [Row<(u32, u32)>; 4] = [
 ];
 
 #[test]
-fn both_outputs() -> Result<(), Fail> {
+fn both_outputs(rt: HostRuntime) -> Result<(), Fail> {
     let ab = pair(item(b'a'), item(b'b'));
-    run_rows(&ab, Complete, &AB)?;
-    run_rows(&ab, Streaming, &AB_STREAMING)
+    run_rows(&rt, &ab, Complete, &AB)?;
+    run_rows(&rt, &ab, Streaming, &AB_STREAMING)
 }
 
 // The item of the first part is dropped, and never stands.
@@ -77,9 +56,9 @@ const FIRST: [Row<u32>; 3] = [
 ];
 
 #[test]
-fn one_output() -> Result<(), Fail> {
-    run_rows(&preceded(item(b'a'), item(b'b')), Complete, &SECOND)?;
-    run_rows(&terminated(item(b'a'), item(b'b')), Complete, &FIRST)
+fn one_output(rt: HostRuntime) -> Result<(), Fail> {
+    run_rows(&rt, &preceded(item(b'a'), item(b'b')), Complete, &SECOND)?;
+    run_rows(&rt, &terminated(item(b'a'), item(b'b')), Complete, &FIRST)
 }
 
 const BRACKETED: [Row<u32>; 4] = [
@@ -96,13 +75,15 @@ const SEPARATED: [Row<(u32, u32)>; 3] = [
 ];
 
 #[test]
-fn three_parts() -> Result<(), Fail> {
+fn three_parts(rt: HostRuntime) -> Result<(), Fail> {
     run_rows(
+        &rt,
         &delimited(item(b'('), digit(), item(b')')),
         Complete,
         &BRACKETED,
     )?;
     run_rows(
+        &rt,
         &separated_pair(digit(), item(b','), digit()),
         Complete,
         &SEPARATED,
@@ -142,7 +123,7 @@ const LINE_STREAMING: [Row<((u32, u32), (u32, u32))>; 5] = [
 ];
 
 #[test]
-fn a_nested_build() -> Result<(), Fail> {
-    run_rows(&line(), Complete, &LINE)?;
-    run_rows(&line(), Streaming, &LINE_STREAMING)
+fn a_nested_build(rt: HostRuntime) -> Result<(), Fail> {
+    run_rows(&rt, &line(), Complete, &LINE)?;
+    run_rows(&rt, &line(), Streaming, &LINE_STREAMING)
 }

@@ -1,25 +1,13 @@
 // Parts that the tests build parsers of.
-ghost use Prim.Native.Nat.{_-_};
-ghost use mathlib.Core.Bool.{cond};
-ghost use lib.Dec.{leb};
-ghost use Rattle·std.specs.declared.option.Option.the-variants.{Some, None};
-ghost use Rattle·std.specs.declared.result.Result.the-variants.{Ok, Err};
-ghost use Rattle·parse.specs.Algebra.{still};
-ghost use Rattle·parse.specs.Run.{failure};
-ghost use Rattle·parse.specs.declared.error.ErrorKind.the-variants.{Verify as VerifyKind};
-use demo::Digit;
-use demo::Satisfy;
-use parse::Checked;
-use parse::ErrorKind;
-use parse::Fault;
-use parse::Function;
-use parse::ParseError;
-use parse::Parser;
+ghost use Rattle.std.specs.Prelude.{◌-◌, if◌then◌else◌, Some, None, Ok, Err, nat_le};
+ghost use Rattle.parse.specs.Algebra.{still};
+ghost use Rattle.parse.specs.Run.{failure};
+ghost use Rattle.parse.specs.declared.error.ErrorKind.TheVariants.{Verify as VerifyKind};
+
+use demo::{Digit, Satisfy};
+use parse::{Checked, ErrorKind, Fault, Function, ParseError, Parser};
 use sink::Sink;
-use text::Is;
-use text::Manner;
-use text::Span;
-use text::Text;
+use text::{Is, Manner, Span, Text};
 
 pub fn item(byte: u8) -> Satisfy<Is> {
     Satisfy {
@@ -35,10 +23,10 @@ pub fn digit() -> Satisfy<Digit> {
 #[derive(Clone, Copy)]
 pub struct Small;
 
-pub impl<T: Text> Function<T, u32> for Small as SmallFunction {
+impl<T: Text> Function<T, u32> for Small {
     type Value = Result<u32, u32>;
 
-    ghost value = { λ _ _ code. cond (leb code 53) (Ok (code - 48)) (Err code) };
+    ghost value = { λ _ _ code. (if nat_le code 53 then Ok (code - 48) else Err code) };
 
     fn call(&self, _text: &T, code: u32) -> Result<u32, u32> {
         if code <= 53 {
@@ -53,10 +41,10 @@ pub impl<T: Text> Function<T, u32> for Small as SmallFunction {
 #[derive(Clone, Copy)]
 pub struct Rising;
 
-pub impl<T: Text> Function<T, (u32, u32)> for Rising as RisingFunction {
+impl<T: Text> Function<T, (u32, u32)> for Rising {
     type Value = Option<(u32, u32)>;
 
-    ghost value = { λ _ _ codes. cond (leb (codes .0) (codes .1)) (Some codes) None };
+    ghost value = { λ _ _ codes. (if nat_le codes.0 codes.1 then Some codes else None) };
 
     fn call(&self, _text: &T, codes: (u32, u32)) -> Option<(u32, u32)> {
         if codes.0 <= codes.1 {
@@ -71,7 +59,7 @@ pub impl<T: Text> Function<T, (u32, u32)> for Rising as RisingFunction {
 #[derive(Clone, Copy)]
 pub struct Again;
 
-pub impl<T: Text> Function<T, u32> for Again as AgainFunction {
+impl<T: Text> Function<T, u32> for Again {
     type Value = Satisfy<Is>;
 
     ghost value = { λ _ _ code. record { test = record { code = code } } };
@@ -85,10 +73,10 @@ pub impl<T: Text> Function<T, u32> for Again as AgainFunction {
 #[derive(Clone, Copy)]
 pub struct Stop;
 
-pub impl<T: Text, E: ParseError> Parser<T, u32, E> for Stop as StopParser {
+impl<T: Text, E: ParseError> Parser<T, u32, E> for Stop {
     type Output = u32;
 
-    ghost means = { λ _ _ s _. still (failure (E·ParseError .made s VerifyKind)) };
+    ghost means = { λ _ _ s _. still (failure (E.ParseError.made s VerifyKind)) };
 
     ghost suffix = { λ _ _ _ _ _ _. tt };
 

@@ -1,22 +1,9 @@
 // Running a parser on the texts of a table.
-use parse::Checked;
-use parse::Emitted;
-use parse::Error;
-use parse::ErrorKind;
-use parse::ErrorKindDebug;
-use parse::ErrorKindPartialEq;
-use parse::ErrorParseError;
-use parse::Fault;
-use parse::Parser;
-use parse::emit_into;
+use parse::{Checked, Emitted, Error, ErrorKind, Fault, Parser, emit_into};
 use std::fmt::Debug;
-use std::test::*;
-use text::ByteText;
-use text::ByteTextText;
-use text::Manner;
-use text::Needed;
-use text::Span;
-use text::Text;
+use std::process::Abort;
+use std::test::Fail;
+use text::{ByteText, Manner, Needed, Span, Text};
 
 // What a parser answers.
 #[derive(Clone, Copy, PartialEq, Debug)]
@@ -53,27 +40,36 @@ pub fn outcome_of<O>(answer: Result<(Span, O), Fault<Error>>) -> Outcome<O> {
 }
 
 // The slice's first places hold these items.
-fn check_items(places: &[u32], count: usize, items: &[u32]) -> Result<(), Fail> {
-    check(count <= places.len())?;
-    check(&places[0..count] == items)
+fn check_items(rt: &impl Abort, places: &[u32], count: usize, items: &[u32]) -> Result<(), Fail> {
+    assert!(rt; count <= places.len());
+    assert!(rt; &places[0..count] == items);
+    Ok(())
 }
 
 // `emit_into` answers what the row says, or `Full` where there are too few places.
 fn run_emit<
     T: Text,
     M: Manner + Copy,
-    O: PartialEq<O> + Debug + Copy,
+    O: PartialEq + Debug + Copy,
     P: Parser<T, u32, Error, Output = O>,
->(parser: &P, text: &T, manner: M, row: &Row<O>, places: &mut [u32]) -> Result<(), Fail> {
+>(
+    rt: &impl Abort,
+    parser: &P,
+    text: &T,
+    manner: M,
+    row: &Row<O>,
+    places: &mut [u32],
+) -> Result<(), Fail> {
     let (_, expected, peak, items) = row;
     let free = places.len();
     let Emitted { answer, count } = emit_into(parser, text, manner, places);
     if free < *peak {
-        check_eq(outcome_of(answer), Outcome::Full)?;
-        check_eq(count, 0)
+        assert_eq!(rt; outcome_of(answer), Outcome::Full);
+        assert_eq!(rt; count, 0);
+        Ok(())
     } else {
-        check_eq(&outcome_of(answer), expected)?;
-        check_items(places, count, items)
+        assert_eq!(rt; &outcome_of(answer), expected);
+        check_items(rt, places, count, items)
     }
 }
 
@@ -81,21 +77,21 @@ fn run_emit<
 pub fn run<
     T: Text,
     M: Manner + Copy,
-    O: PartialEq<O> + Debug + Copy,
+    O: PartialEq + Debug + Copy,
     P: Parser<T, u32, Error, Output = O>,
->(parser: &P, text: &T, manner: M, row: &Row<O>) -> Result<(), Fail> {
+>(rt: &impl Abort, parser: &P, text: &T, manner: M, row: &Row<O>) -> Result<(), Fail> {
     let (_, expected, most, items) = row;
     let Checked {
         answer,
         count,
         peak,
     } = parse::check::<u32, Error, _, _, _>(parser, text, manner);
-    check_eq(&outcome_of(answer), expected)?;
-    check_eq(count as usize, items.len())?;
-    check_eq(peak as usize, *most)?;
+    assert_eq!(rt; &outcome_of(answer), expected);
+    assert_eq!(rt; count as usize, items.len());
+    assert_eq!(rt; peak as usize, *most);
     for free in 0..=PLACES {
         let mut places = [0u32; PLACES];
-        run_emit(parser, text, manner, row, &mut places[0..free])?;
+        run_emit(rt, parser, text, manner, row, &mut places[0..free])?;
     }
     Ok(())
 }
@@ -103,12 +99,12 @@ pub fn run<
 // A parser on the rows of a table, over texts of bytes.
 pub fn run_rows<
     M: Manner + Copy,
-    O: PartialEq<O> + Debug + Copy,
+    O: PartialEq + Debug + Copy,
     P: Parser<ByteText<'static>, u32, Error, Output = O>,
->(parser: &P, manner: M, rows: &[Row<O>]) -> Result<(), Fail> {
+>(rt: &impl Abort, parser: &P, manner: M, rows: &[Row<O>]) -> Result<(), Fail> {
     for row in rows {
         let text = row.0;
-        run(parser, &ByteText::new(text.as_bytes()), manner, row).note(text)?;
+        run(rt, parser, &ByteText::new(text.as_bytes()), manner, row).note(text)?;
     }
     Ok(())
 }

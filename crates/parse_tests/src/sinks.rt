@@ -1,32 +1,11 @@
 // What a sink holds after a parser emitted into it.
 use crate::parts::item;
-use crate::runs::Outcome;
-use crate::runs::OutcomeDebug;
-use crate::runs::OutcomePartialEq;
-use crate::runs::outcome_of;
-use demo::DigitPredicate;
-use demo::DigitValueFunction;
-use demo::SatisfyParser;
+use crate::runs::{Outcome, outcome_of};
 use demo::line;
-use parse::Emitted;
-use parse::ErrorKind;
-use parse::ErrorParseError;
-use parse::emit_into;
-use sequence::AndParser;
-use sequence::MapParser;
-use sequence::OrParser;
-use sequence::PrecededParser;
-use sink::RefusalDebug;
-use sink::RefusalPartialEq;
-use sink::Sheet;
-use sink::SheetSink;
-use sink::Sink;
-use std::test::*;
-use text::ByteText;
-use text::ByteTextText;
-use text::Complete;
-use text::CompleteManner;
-use text::IsPredicate;
+use parse::{Emitted, ErrorKind, Parser, emit_into};
+use sink::{Sheet, Sink};
+use std::process::Abort;
+use text::{ByteText, Complete};
 
 // A text, the places, what emitting answers, and the list that is left.
 type Behind = (
@@ -51,25 +30,24 @@ const BEHIND: [Behind; 6] = [
 ];
 
 // Two items stand in the sink, and stay in front.
-fn emit_behind(case: Behind, places: &mut [u32]) -> Result<(), Fail> {
+fn emit_behind(rt: &impl Abort, case: Behind, places: &mut [u32]) {
     let (text, _, expected, list) = case;
     let mut sheet = Sheet::new(places);
-    check_eq(sheet.push(7), Ok(()))?;
-    check_eq(sheet.push(8), Ok(()))?;
+    assert_eq!(rt; sheet.push(7), Ok(()));
+    assert_eq!(rt; sheet.push(8), Ok(()));
     let text = ByteText::new(text.as_bytes());
     let answer = parse::emit(&line(), &text, Complete, &mut sheet);
-    check_eq(outcome_of(answer), expected)?;
-    check(sheet.items() == list)
+    assert_eq!(rt; outcome_of(answer), expected);
+    assert!(rt; sheet.items() == list);
 }
 
 #[test]
-fn behind_other_items() -> Result<(), Fail> {
+fn behind_other_items(rt: HostRuntime) {
     for case in BEHIND {
         let mut places = [0u32; 6];
-        check(case.1 <= 6)?;
-        emit_behind(case, &mut places[0..case.1])?;
+        assert!(rt; case.1 <= 6);
+        emit_behind(&rt, case, &mut places[0..case.1]);
     }
-    Ok(())
 }
 
 // No place at all: an answer without items is given, and one with an item is not.
@@ -80,13 +58,12 @@ const NO_PLACES: [(&str, Outcome<u32>); 3] = [
 ];
 
 #[test]
-fn an_empty_slice() -> Result<(), Fail> {
+fn an_empty_slice(rt: HostRuntime) {
     for (text, expected) in NO_PLACES {
         let text = ByteText::new(text.as_bytes());
         let mut none: [u32; 0] = [];
         let Emitted { answer, count } = emit_into(&item(b'a'), &text, Complete, &mut none);
-        check_eq(outcome_of(answer), expected)?;
-        check_eq(count, 0)?;
+        assert_eq!(rt; outcome_of(answer), expected);
+        assert_eq!(rt; count, 0);
     }
-    Ok(())
 }

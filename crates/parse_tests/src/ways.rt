@@ -1,27 +1,10 @@
 // Another way at the same place.
-use crate::parts::Stop;
-use crate::parts::StopParser;
-use crate::parts::digit;
-use crate::parts::item;
-use crate::runs::Outcome;
-use crate::runs::Row;
-use crate::runs::run_rows;
-use demo::DigitPredicate;
-use demo::SatisfyParser;
-use parse::ErrorKind;
-use parse::ErrorParseError;
-use sequence::AndParser;
-use sequence::AnyParserExt;
-use sequence::OrParser;
-use sequence::ParserExt;
-use sequence::pair;
-use std::test::*;
-use text::ByteTextText;
-use text::Complete;
-use text::CompleteManner;
-use text::IsPredicate;
-use text::Streaming;
-use text::StreamingManner;
+use crate::parts::{Stop, digit, item};
+use crate::runs::{Outcome, Row, run_rows};
+use parse::{ErrorKind, ParseError};
+use sequence::{ParserExt, pair};
+use std::test::Fail;
+use text::{Complete, Streaming};
 
 // `ab`, or else two digits. The error is the second way's, also where the first got further; items that stood on the
 // first way count for the peak.
@@ -43,10 +26,10 @@ const TWO_WAYS_STREAMING: [Row<(u32, u32)>; 4] = [
 ];
 
 #[test]
-fn the_second_after_an_error() -> Result<(), Fail> {
+fn the_second_after_an_error(rt: HostRuntime) -> Result<(), Fail> {
     let build = pair(item(b'a'), item(b'b')).or(pair(digit(), digit()));
-    run_rows(&build, Complete, &TWO_WAYS)?;
-    run_rows(&build, Streaming, &TWO_WAYS_STREAMING)
+    run_rows(&rt, &build, Complete, &TWO_WAYS)?;
+    run_rows(&rt, &build, Streaming, &TWO_WAYS_STREAMING)
 }
 
 // The first way stops for good behind an `a`; the second would take `ab`.
@@ -57,10 +40,11 @@ const STOPPED: [Row<(u32, u32)>; 3] = [
 ];
 
 #[test]
-fn no_second_after_a_failure() -> Result<(), Fail> {
+fn no_second_after_a_failure(rt: HostRuntime) -> Result<(), Fail> {
     let build = pair(item(b'a'), Stop).or(pair(item(b'a'), item(b'b')));
-    run_rows(&build, Complete, &STOPPED)?;
+    run_rows(&rt, &build, Complete, &STOPPED)?;
     run_rows(
+        &rt,
         &item(b'a').or(Stop),
         Complete,
         &[
@@ -78,8 +62,8 @@ const ALIKE: [Row<((u32, u32), u32)>; 3] = [
 ];
 
 #[test]
-fn the_same_place_again() -> Result<(), Fail> {
+fn the_same_place_again(rt: HostRuntime) -> Result<(), Fail> {
     let c = pair(pair(item(b'a'), item(b'b')), item(b'c'));
     let d = pair(pair(item(b'a'), item(b'b')), item(b'd'));
-    run_rows(&c.or(d), Complete, &ALIKE)
+    run_rows(&rt, &c.or(d), Complete, &ALIKE)
 }

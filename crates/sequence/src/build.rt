@@ -1,12 +1,9 @@
 // Building parsers of parsers, by nom's names. What is built holds its parts by value, and each part as it was given.
-ghost use mathlib.Core.Path.{_≡_};
-use crate::chained::AndThen;
-use crate::chained::FlatMap;
-use crate::dropping::Preceded;
-use crate::dropping::Terminated;
-use crate::maps::Map;
-use crate::maps::MapOpt;
-use crate::maps::MapRes;
+ghost use Rattle.std.specs.Prelude.{◌≡◌};
+
+use crate::chained::{AndThen, FlatMap};
+use crate::dropping::{Preceded, Terminated};
+use crate::maps::{Map, MapOpt, MapRes};
 use crate::pairs::And;
 use crate::ways::Or;
 use std::marker::PhantomData;
@@ -14,22 +11,22 @@ use std::marker::PhantomData;
 // nom's methods of a parser. They are here for a value of any type; what is built is a parser where its parts are.
 pub trait ParserExt: Sized {
     fn and<G>(self, g: G) -> And<Self, G>
-        ensures f { λ r. ⌜ r .f ≡ self ⌝ }
-        ensures g { λ r. ⌜ r .g ≡ g ⌝ }
+        ensures f { result.f ≡ self }
+        ensures g { result.g ≡ g }
     {
         And { f: self, g }
     }
 
     fn or<G>(self, g: G) -> Or<Self, G>
-        ensures f { λ r. ⌜ r .f ≡ self ⌝ }
-        ensures g { λ r. ⌜ r .g ≡ g ⌝ }
+        ensures f { result.f ≡ self }
+        ensures g { result.g ≡ g }
     {
         Or { f: self, g }
     }
 
     fn map<G, A>(self, g: G) -> Map<Self, G, A>
-        ensures f { λ r. ⌜ r .f ≡ self ⌝ }
-        ensures g { λ r. ⌜ r .g ≡ g ⌝ }
+        ensures f { result.f ≡ self }
+        ensures g { result.g ≡ g }
     {
         Map {
             f: self,
@@ -39,8 +36,8 @@ pub trait ParserExt: Sized {
     }
 
     fn map_res<G, A, X>(self, g: G) -> MapRes<Self, G, A, X>
-        ensures f { λ r. ⌜ r .f ≡ self ⌝ }
-        ensures g { λ r. ⌜ r .g ≡ g ⌝ }
+        ensures f { result.f ≡ self }
+        ensures g { result.g ≡ g }
     {
         MapRes {
             f: self,
@@ -51,8 +48,8 @@ pub trait ParserExt: Sized {
     }
 
     fn map_opt<G, A>(self, g: G) -> MapOpt<Self, G, A>
-        ensures f { λ r. ⌜ r .f ≡ self ⌝ }
-        ensures g { λ r. ⌜ r .g ≡ g ⌝ }
+        ensures f { result.f ≡ self }
+        ensures g { result.g ≡ g }
     {
         MapOpt {
             f: self,
@@ -62,8 +59,8 @@ pub trait ParserExt: Sized {
     }
 
     fn flat_map<G, A, P>(self, g: G) -> FlatMap<Self, G, A, P>
-        ensures f { λ r. ⌜ r .f ≡ self ⌝ }
-        ensures g { λ r. ⌜ r .g ≡ g ⌝ }
+        ensures f { result.f ≡ self }
+        ensures g { result.g ≡ g }
     {
         FlatMap {
             f: self,
@@ -74,19 +71,19 @@ pub trait ParserExt: Sized {
     }
 
     fn and_then<G>(self, g: G) -> AndThen<Self, G>
-        ensures f { λ r. ⌜ r .f ≡ self ⌝ }
-        ensures g { λ r. ⌜ r .g ≡ g ⌝ }
+        ensures f { result.f ≡ self }
+        ensures g { result.g ≡ g }
     {
         AndThen { f: self, g }
     }
 }
 
-pub impl<F> ParserExt for F as AnyParserExt {}
+impl<F> ParserExt for F {}
 
 // Both outputs as a pair.
 pub fn pair<F, G>(first: F, second: G) -> And<F, G>
-    ensures f { λ r. ⌜ r .f ≡ first ⌝ }
-    ensures g { λ r. ⌜ r .g ≡ second ⌝ }
+    ensures f { result.f ≡ first }
+    ensures g { result.g ≡ second }
 {
     And {
         f: first,
@@ -96,8 +93,8 @@ pub fn pair<F, G>(first: F, second: G) -> And<F, G>
 
 // The second output.
 pub fn preceded<F, G, A>(first: F, second: G) -> Preceded<F, G, A>
-    ensures f { λ r. ⌜ r .f ≡ first ⌝ }
-    ensures g { λ r. ⌜ r .g ≡ second ⌝ }
+    ensures f { result.f ≡ first }
+    ensures g { result.g ≡ second }
 {
     Preceded {
         f: first,
@@ -108,8 +105,8 @@ pub fn preceded<F, G, A>(first: F, second: G) -> Preceded<F, G, A>
 
 // The first output.
 pub fn terminated<F, G, B>(first: F, second: G) -> Terminated<F, G, B>
-    ensures f { λ r. ⌜ r .f ≡ first ⌝ }
-    ensures g { λ r. ⌜ r .g ≡ second ⌝ }
+    ensures f { result.f ≡ first }
+    ensures g { result.g ≡ second }
 {
     Terminated {
         f: first,
@@ -124,18 +121,18 @@ pub fn delimited<F, G, H, A, B>(
     second: G,
     third: H,
 ) -> Preceded<F, Terminated<G, H, B>, A>
-    ensures first { λ r. ⌜ r .f ≡ first ⌝ }
-    ensures second { λ r. ⌜ r .g .f ≡ second ⌝ }
-    ensures third { λ r. ⌜ r .g .g ≡ third ⌝ }
+    ensures first { result.f ≡ first }
+    ensures second { result.g.f ≡ second }
+    ensures third { result.g.g ≡ third }
 {
     preceded(first, terminated(second, third))
 }
 
 // The outputs of the first and the last of three, as a pair.
 pub fn separated_pair<F, G, H, A>(first: F, separator: G, second: H) -> And<F, Preceded<G, H, A>>
-    ensures first { λ r. ⌜ r .f ≡ first ⌝ }
-    ensures separator { λ r. ⌜ r .g .f ≡ separator ⌝ }
-    ensures second { λ r. ⌜ r .g .g ≡ second ⌝ }
+    ensures first { result.f ≡ first }
+    ensures separator { result.g.f ≡ separator }
+    ensures second { result.g.g ≡ second }
 {
     pair(first, preceded(separator, second))
 }

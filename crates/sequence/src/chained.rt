@@ -1,18 +1,12 @@
 // A second part that hangs on the first's output: a parser made of it, or one run on the span that it is.
-ghost use Rattle·parse.specs.Algebra.{after, restAt};
-ghost use Rattle·parse.specs.Suffixes.{after-suffix};
-ghost use Rattle·parse.specs.Subspans.{inner-suffix};
-use parse::Checked;
-use parse::Fault;
-use parse::Function;
-use parse::ParseError;
-use parse::Parser;
-use parse::Subspan;
+ghost use Rattle.parse.specs.Algebra.{after, rest_at};
+ghost use Rattle.parse.specs.Suffixes.{after_suffix};
+ghost use Rattle.parse.specs.Subspans.{inner_suffix};
+
+use parse::{Checked, Fault, Function, ParseError, Parser, Subspan};
 use sink::Sink;
 use std::marker::PhantomData;
-use text::Manner;
-use text::Span;
-use text::Text;
+use text::{Manner, Span, Text};
 
 // On the remainder of the first part, the parser that the function makes of its output. The first part runs by check, so
 // that its items are dropped.
@@ -24,7 +18,7 @@ pub struct FlatMap<F, G, A, P> {
     pub made: PhantomData<P>,
 }
 
-pub impl<
+impl<
     T: Text,
     I: Copy,
     E: ParseError,
@@ -32,12 +26,12 @@ pub impl<
     P: Parser<T, I, E> + Drop,
     F: Parser<T, I, E, Output = A>,
     G: Function<T, A, Value = P>,
-> Parser<T, I, E> for FlatMap<F, G, A, P> as FlatMapParser {
+> Parser<T, I, E> for FlatMap<F, G, A, P> {
     type Output = P::Output;
 
-    ghost means = { λ p cs s c. after (F·Parser .means (p .f) cs s c .outcome) (λ r a. P·Parser .means (G·Function .value (p .g) cs a) cs r c) };
+    ghost means = { λ p cs s c. after (F.Parser.means p.f cs s c).outcome (λ r a. P.Parser.means (G.Function.value p.g cs a) cs r c) };
 
-    ghost suffix = { λ p cs s c k w. after-suffix cs s (F·Parser .means (p .f) cs s c .outcome) (λ r a. P·Parser .means (G·Function .value (p .g) cs a) cs r c) (F·Parser .suffix (p .f) cs s c k w) (λ r a h. P·Parser .suffix (G·Function .value (p .g) cs a) cs r c k (h .within)) };
+    ghost suffix = { λ p cs s c k w. after_suffix cs s (F.Parser.means p.f cs s c).outcome (λ r a. P.Parser.means (G.Function.value p.g cs a) cs r c) (F.Parser.suffix p.f cs s c k w) (λ r a h. P.Parser.suffix (G.Function.value p.g cs a) cs r c k h.within) };
 
     fn check<M: Manner>(&self, text: &T, span: Span) -> Checked<P::Output, E> {
         match self.f.check::<M>(text, span).answer {
@@ -65,16 +59,13 @@ pub struct AndThen<F, G> {
     pub g: G,
 }
 
-pub impl<T: Text, I: Copy, E: ParseError, F: Subspan<T, I, E>, G: Parser<T, I, E>> Parser<
-    T,
-    I,
-    E,
-> for AndThen<F, G> as AndThenParser {
+impl<T: Text, I: Copy, E: ParseError, F: Subspan<T, I, E>, G: Parser<T, I, E>> Parser<T, I, E>
+    for AndThen<F, G> {
     type Output = G::Output;
 
-    ghost means = { λ p cs s c. after (F·Subspan .cuts (p .f) cs s c .outcome) (λ r u. restAt r (G·Parser .means (p .g) cs u c)) };
+    ghost means = { λ p cs s c. after (F.Subspan.cuts p.f cs s c).outcome (λ r u. rest_at r (G.Parser.means p.g cs u c)) };
 
-    ghost suffix = { λ p cs s c k w. inner-suffix cs s (F·Subspan .cuts (p .f) cs s c .outcome) (λ u. G·Parser .means (p .g) cs u c) (F·Subspan .inside (p .f) cs s c k w) };
+    ghost suffix = { λ p cs s c k w. inner_suffix cs s (F.Subspan.cuts p.f cs s c).outcome (λ u. G.Parser.means p.g cs u c) (F.Subspan.inside p.f cs s c k w) };
 
     fn check<M: Manner>(&self, text: &T, span: Span) -> Checked<G::Output, E> {
         let (rest, inner) = match self.f.cut::<M>(text, span) {

@@ -1,18 +1,12 @@
 // Two parts, one after the other, with one output. The other part runs by check, so that its items are dropped.
-ghost use Rattle·parse.specs.Algebra.{andStep, after, mapped};
-ghost use Rattle·parse.specs.Subspans.{after-inside, step-inside};
-ghost use Rattle·parse.specs.Suffixes.{step-suffix, after-suffix, mapped-suffix};
-use parse::Checked;
-use parse::Fault;
-use parse::ParseError;
-use parse::Parser;
-use parse::Subspan;
-use parse::undo;
+ghost use Rattle.parse.specs.Algebra.{and_step, after, mapped};
+ghost use Rattle.parse.specs.Subspans.{after_inside, step_inside};
+ghost use Rattle.parse.specs.Suffixes.{step_suffix, after_suffix, mapped_suffix};
+
+use parse::{Checked, Fault, ParseError, Parser, Subspan, undo};
 use sink::Sink;
 use std::marker::PhantomData;
-use text::Manner;
-use text::Span;
-use text::Text;
+use text::{Manner, Span, Text};
 
 // Both parts, with the second's output. The first runs by check, so that its items are dropped.
 #[derive(Drop)]
@@ -22,19 +16,19 @@ pub struct Preceded<F, G, A> {
     pub dropped: PhantomData<A>,
 }
 
-pub impl<
+impl<
     T: Text,
     I: Copy,
     E: ParseError,
     A: Drop,
     F: Parser<T, I, E, Output = A>,
     G: Parser<T, I, E>,
-> Parser<T, I, E> for Preceded<F, G, A> as PrecededParser {
+> Parser<T, I, E> for Preceded<F, G, A> {
     type Output = G::Output;
 
-    ghost means = { λ p cs s c. after (F·Parser .means (p .f) cs s c .outcome) (λ r _. G·Parser .means (p .g) cs r c) };
+    ghost means = { λ p cs s c. after (F.Parser.means p.f cs s c).outcome (λ r _. G.Parser.means p.g cs r c) };
 
-    ghost suffix = { λ p cs s c k w. after-suffix cs s (F·Parser .means (p .f) cs s c .outcome) (λ r _. G·Parser .means (p .g) cs r c) (F·Parser .suffix (p .f) cs s c k w) (λ r _ h. G·Parser .suffix (p .g) cs r c k (h .within)) };
+    ghost suffix = { λ p cs s c k w. after_suffix cs s (F.Parser.means p.f cs s c).outcome (λ r _. G.Parser.means p.g cs r c) (F.Parser.suffix p.f cs s c k w) (λ r _ h. G.Parser.suffix p.g cs r c k h.within) };
 
     fn check<M: Manner>(&self, text: &T, span: Span) -> Checked<G::Output, E> {
         match self.f.check::<M>(text, span).answer {
@@ -54,17 +48,17 @@ pub impl<
     }
 }
 
-pub impl<
+impl<
     T: Text,
     I: Copy,
     E: ParseError,
     A: Drop,
     F: Parser<T, I, E, Output = A>,
     G: Subspan<T, I, E>,
-> Subspan<T, I, E> for Preceded<F, G, A> as PrecededSubspan {
-    ghost cuts = { λ p cs s c. after (F·Parser .means (p .f) cs s c .outcome) (λ r _. G·Subspan .cuts (p .g) cs r c) };
+> Subspan<T, I, E> for Preceded<F, G, A> {
+    ghost cuts = { λ p cs s c. after (F.Parser.means p.f cs s c).outcome (λ r _. G.Subspan.cuts p.g cs r c) };
 
-    ghost inside = { λ p cs s c k w. after-inside cs s (F·Parser .means (p .f) cs s c .outcome) (λ r _. G·Subspan .cuts (p .g) cs r c) (F·Parser .suffix (p .f) cs s c k w) (λ r _ h. G·Subspan .inside (p .g) cs r c k (h .within)) };
+    ghost inside = { λ p cs s c k w. after_inside cs s (F.Parser.means p.f cs s c).outcome (λ r _. G.Subspan.cuts p.g cs r c) (F.Parser.suffix p.f cs s c k w) (λ r _ h. G.Subspan.inside p.g cs r c k h.within) };
 
     fn cut<M: Manner>(&self, text: &T, span: Span) -> Result<(Span, Span), Fault<E>> {
         let (rest, _a) = self.f.check::<M>(text, span).answer?;
@@ -80,19 +74,19 @@ pub struct Terminated<F, G, B> {
     pub dropped: PhantomData<B>,
 }
 
-pub impl<
+impl<
     T: Text,
     I: Copy,
     E: ParseError,
     B: Drop,
     F: Parser<T, I, E>,
     G: Parser<T, I, E, Output = B>,
-> Parser<T, I, E> for Terminated<F, G, B> as TerminatedParser {
+> Parser<T, I, E> for Terminated<F, G, B> {
     type Output = F::Output;
 
-    ghost means = { λ p cs s c. andStep (F·Parser .means (p .f) cs s c) (λ r a. mapped (λ _. a) (G·Parser .means (p .g) cs r c .outcome)) };
+    ghost means = { λ p cs s c. and_step (F.Parser.means p.f cs s c) (λ r a. mapped (λ _. a) (G.Parser.means p.g cs r c).outcome) };
 
-    ghost suffix = { λ p cs s c k w. step-suffix cs s (F·Parser .means (p .f) cs s c) (λ r a. mapped (λ _. a) (G·Parser .means (p .g) cs r c .outcome)) (F·Parser .suffix (p .f) cs s c k w) (λ r a h. mapped-suffix cs r (λ _. a) (G·Parser .means (p .g) cs r c .outcome) (G·Parser .suffix (p .g) cs r c k (h .within))) };
+    ghost suffix = { λ p cs s c k w. step_suffix cs s (F.Parser.means p.f cs s c) (λ r a. mapped (λ _. a) (G.Parser.means p.g cs r c).outcome) (F.Parser.suffix p.f cs s c k w) (λ r a h. mapped_suffix cs r (λ _. a) (G.Parser.means p.g cs r c).outcome (G.Parser.suffix p.g cs r c k h.within)) };
 
     fn check<M: Manner>(&self, text: &T, span: Span) -> Checked<F::Output, E> {
         let Checked {
@@ -138,17 +132,17 @@ pub impl<
     }
 }
 
-pub impl<
+impl<
     T: Text,
     I: Copy,
     E: ParseError,
     B: Drop,
     F: Subspan<T, I, E>,
     G: Parser<T, I, E, Output = B>,
-> Subspan<T, I, E> for Terminated<F, G, B> as TerminatedSubspan {
-    ghost cuts = { λ p cs s c. andStep (F·Subspan .cuts (p .f) cs s c) (λ r u. mapped (λ _. u) (G·Parser .means (p .g) cs r c .outcome)) };
+> Subspan<T, I, E> for Terminated<F, G, B> {
+    ghost cuts = { λ p cs s c. and_step (F.Subspan.cuts p.f cs s c) (λ r u. mapped (λ _. u) (G.Parser.means p.g cs r c).outcome) };
 
-    ghost inside = { λ p cs s c k w. step-inside cs s (F·Subspan .cuts (p .f) cs s c) (λ r. G·Parser .means (p .g) cs r c .outcome) (F·Subspan .inside (p .f) cs s c k w) (λ r h. G·Parser .suffix (p .g) cs r c k (h .within)) };
+    ghost inside = { λ p cs s c k w. step_inside cs s (F.Subspan.cuts p.f cs s c) (λ r. (G.Parser.means p.g cs r c).outcome) (F.Subspan.inside p.f cs s c k w) (λ r h. G.Parser.suffix p.g cs r c k h.within) };
 
     fn cut<M: Manner>(&self, text: &T, span: Span) -> Result<(Span, Span), Fault<E>> {
         let (rest, inner) = self.f.cut::<M>(text, span)?;

@@ -1,21 +1,13 @@
 // A function on the output: one that always gives a value, or one that may refuse.
-ghost use Rattle·parse.specs.declared.error.ErrorKind.the-variants.{MapRes as MapResKind, MapOpt as MapOptKind};
-ghost use Rattle·parse.specs.Algebra.{andStep, mapRun};
-ghost use Rattle·parse.specs.Suffixes.{step-suffix, map-suffix};
-ghost use Rattle·sequence·specs.Refusing.{resulted, valued, resulted-suffix, valued-suffix};
-use parse::Checked;
-use parse::ErrorKind;
-use parse::Fault;
-use parse::FromExternalError;
-use parse::Function;
-use parse::ParseError;
-use parse::Parser;
-use parse::undo;
+ghost use Rattle.parse.specs.declared.error.ErrorKind.TheVariants.{MapRes as MapResKind, MapOpt as MapOptKind};
+ghost use Rattle.parse.specs.Algebra.{and_step, map_run};
+ghost use Rattle.parse.specs.Suffixes.{step_suffix, map_suffix};
+ghost use Rattle.sequence.specs.Refusing.{resulted, valued, resulted_suffix, valued_suffix};
+
+use parse::{Checked, ErrorKind, Fault, FromExternalError, Function, ParseError, Parser, undo};
 use sink::Sink;
 use std::marker::PhantomData;
-use text::Manner;
-use text::Span;
-use text::Text;
+use text::{Manner, Span, Text};
 
 // The function's value of the output.
 #[derive(Drop)]
@@ -25,19 +17,19 @@ pub struct Map<F, G, A> {
     pub argument: PhantomData<A>,
 }
 
-pub impl<
+impl<
     T: Text,
     I: Copy,
     E: ParseError,
     A: Drop,
     F: Parser<T, I, E, Output = A>,
     G: Function<T, A>,
-> Parser<T, I, E> for Map<F, G, A> as MapParser {
+> Parser<T, I, E> for Map<F, G, A> {
     type Output = G::Value;
 
-    ghost means = { λ p cs s c. mapRun (G·Function .value (p .g) cs) (F·Parser .means (p .f) cs s c) };
+    ghost means = { λ p cs s c. map_run (G.Function.value p.g cs) (F.Parser.means p.f cs s c) };
 
-    ghost suffix = { λ p cs s c k w. map-suffix cs s (G·Function .value (p .g) cs) (F·Parser .means (p .f) cs s c) (F·Parser .suffix (p .f) cs s c k w) };
+    ghost suffix = { λ p cs s c k w. map_suffix cs s (G.Function.value p.g cs) (F.Parser.means p.f cs s c) (F.Parser.suffix p.f cs s c k w) };
 
     fn check<M: Manner>(&self, text: &T, span: Span) -> Checked<G::Value, E> {
         let Checked {
@@ -75,7 +67,7 @@ pub struct MapRes<F, G, A, X> {
     pub refusal: PhantomData<X>,
 }
 
-pub impl<
+impl<
     T: Text,
     I: Copy,
     X: Drop,
@@ -84,12 +76,12 @@ pub impl<
     B: Drop,
     F: Parser<T, I, E, Output = A>,
     G: Function<T, A, Value = Result<B, X>>,
-> Parser<T, I, E> for MapRes<F, G, A, X> as MapResParser {
+> Parser<T, I, E> for MapRes<F, G, A, X> {
     type Output = B;
 
-    ghost means = { λ p cs s c. andStep (F·Parser .means (p .f) cs s c) (λ r a. resulted (E·FromExternalError .external s MapResKind) r (G·Function .value (p .g) cs a)) };
+    ghost means = { λ p cs s c. and_step (F.Parser.means p.f cs s c) (λ r a. resulted (E.FromExternalError.external s MapResKind) r (G.Function.value p.g cs a)) };
 
-    ghost suffix = { λ p cs s c k w. step-suffix cs s (F·Parser .means (p .f) cs s c) (λ r a. resulted (E·FromExternalError .external s MapResKind) r (G·Function .value (p .g) cs a)) (F·Parser .suffix (p .f) cs s c k w) (λ r a h. resulted-suffix I cs r (h .within) (E·FromExternalError .external s MapResKind) (G·Function .value (p .g) cs a)) };
+    ghost suffix = { λ p cs s c k w. step_suffix cs s (F.Parser.means p.f cs s c) (λ r a. resulted (E.FromExternalError.external s MapResKind) r (G.Function.value p.g cs a)) (F.Parser.suffix p.f cs s c k w) (λ r a h. resulted_suffix I cs r h.within (E.FromExternalError.external s MapResKind) (G.Function.value p.g cs a)) };
 
     fn check<M: Manner>(&self, text: &T, span: Span) -> Checked<B, E> {
         let Checked {
@@ -149,7 +141,7 @@ pub struct MapOpt<F, G, A> {
     pub argument: PhantomData<A>,
 }
 
-pub impl<
+impl<
     T: Text,
     I: Copy,
     E: ParseError,
@@ -157,12 +149,12 @@ pub impl<
     B: Drop,
     F: Parser<T, I, E, Output = A>,
     G: Function<T, A, Value = Option<B>>,
-> Parser<T, I, E> for MapOpt<F, G, A> as MapOptParser {
+> Parser<T, I, E> for MapOpt<F, G, A> {
     type Output = B;
 
-    ghost means = { λ p cs s c. andStep (F·Parser .means (p .f) cs s c) (λ r a. valued (E·ParseError .made s MapOptKind) r (G·Function .value (p .g) cs a)) };
+    ghost means = { λ p cs s c. and_step (F.Parser.means p.f cs s c) (λ r a. valued (E.ParseError.made s MapOptKind) r (G.Function.value p.g cs a)) };
 
-    ghost suffix = { λ p cs s c k w. step-suffix cs s (F·Parser .means (p .f) cs s c) (λ r a. valued (E·ParseError .made s MapOptKind) r (G·Function .value (p .g) cs a)) (F·Parser .suffix (p .f) cs s c k w) (λ r a h. valued-suffix I cs r (h .within) (E·ParseError .made s MapOptKind) (G·Function .value (p .g) cs a)) };
+    ghost suffix = { λ p cs s c k w. step_suffix cs s (F.Parser.means p.f cs s c) (λ r a. valued (E.ParseError.made s MapOptKind) r (G.Function.value p.g cs a)) (F.Parser.suffix p.f cs s c k w) (λ r a h. valued_suffix I cs r h.within (E.ParseError.made s MapOptKind) (G.Function.value p.g cs a)) };
 
     fn check<M: Manner>(&self, text: &T, span: Span) -> Checked<B, E> {
         let Checked {

@@ -1,15 +1,10 @@
 // Two parts, one after the other, with both outputs.
-ghost use Rattle·parse.specs.Algebra.{andThen, mapRun};
-ghost use Rattle·parse.specs.Suffixes.{then-suffix, map-suffix};
-use parse::Checked;
-use parse::Fault;
-use parse::ParseError;
-use parse::Parser;
-use parse::undo;
+ghost use Rattle.parse.specs.Algebra.{and_then, map_run};
+ghost use Rattle.parse.specs.Suffixes.{then_suffix, map_suffix};
+
+use parse::{Checked, Fault, ParseError, Parser, undo};
 use sink::Sink;
-use text::Manner;
-use text::Span;
-use text::Text;
+use text::{Manner, Span, Text};
 
 // Both parts, with both outputs as a pair.
 #[derive(Drop)]
@@ -18,16 +13,13 @@ pub struct And<F, G> {
     pub g: G,
 }
 
-pub impl<T: Text, I: Copy, E: ParseError, F: Parser<T, I, E>, G: Parser<T, I, E>> Parser<
-    T,
-    I,
-    E,
-> for And<F, G> as AndParser {
+impl<T: Text, I: Copy, E: ParseError, F: Parser<T, I, E>, G: Parser<T, I, E>> Parser<T, I, E>
+    for And<F, G> {
     type Output = (F::Output, G::Output);
 
-    ghost means = { λ p cs s c. andThen (F·Parser .means (p .f) cs s c) (λ r a. mapRun (λ b. (a, b)) (G·Parser .means (p .g) cs r c)) };
+    ghost means = { λ p cs s c. and_then (F.Parser.means p.f cs s c) (λ r a. map_run (λ b. (a, b)) (G.Parser.means p.g cs r c)) };
 
-    ghost suffix = { λ p cs s c k w. then-suffix cs s (F·Parser .means (p .f) cs s c) (λ r a. mapRun (λ b. (a, b)) (G·Parser .means (p .g) cs r c)) (F·Parser .suffix (p .f) cs s c k w) (λ r a h. map-suffix cs r (λ b. (a, b)) (G·Parser .means (p .g) cs r c) (G·Parser .suffix (p .g) cs r c k (h .within))) };
+    ghost suffix = { λ p cs s c k w. then_suffix cs s (F.Parser.means p.f cs s c) (λ r a. map_run (λ b. (a, b)) (G.Parser.means p.g cs r c)) (F.Parser.suffix p.f cs s c k w) (λ r a h. map_suffix cs r (λ b. (a, b)) (G.Parser.means p.g cs r c) (G.Parser.suffix p.g cs r c k h.within)) };
 
     fn check<M: Manner>(&self, text: &T, span: Span) -> Checked<(F::Output, G::Output), E> {
         let Checked {

@@ -1,22 +1,14 @@
 // Two ways at one place.
-ghost use mathlib.Core.Path.{_≡_};
-ghost use mathlib.Core.Bool.{Bool};
-ghost use mathlib.Core.List.{List};
-ghost use Rattle·text.specs.declared.Span.{Span};
-ghost use Rattle·text.specs.Cells.{Cell};
-ghost use Rattle·parse.specs.Algebra.{either};
-ghost use Rattle·parse.specs.Subspans.{either-inside};
-ghost use Rattle·parse.specs.Suffixes.{either-suffix};
-use parse::Checked;
-use parse::Fault;
-use parse::ParseError;
-use parse::Parser;
-use parse::Subspan;
-use parse::join_answer;
+ghost use Rattle.std.specs.Prelude.{◌≡◌, Bool, List};
+ghost use Rattle.text.specs.declared.Span.{Span};
+ghost use Rattle.text.specs.Cells.{Cell};
+ghost use Rattle.parse.specs.Algebra.{either};
+ghost use Rattle.parse.specs.Subspans.{either_inside};
+ghost use Rattle.parse.specs.Suffixes.{either_suffix};
+
+use parse::{Checked, Fault, ParseError, Parser, Subspan, join_answer};
 use sink::Sink;
-use text::Manner;
-use text::Span;
-use text::Text;
+use text::{Manner, Span, Text};
 
 // The first part or, only where that is `Error`, the second; where both are, their errors joined.
 #[derive(Drop)]
@@ -25,18 +17,18 @@ pub struct Or<F, G> {
     pub g: G,
 }
 
-pub impl<
+impl<
     T: Text,
     I: Copy,
     E: ParseError,
     F: Parser<T, I, E>,
     G: Parser<T, I, E, Output = F::Output>,
-> Parser<T, I, E> for Or<F, G> as OrParser {
+> Parser<T, I, E> for Or<F, G> {
     type Output = F::Output;
 
-    ghost means = { λ p cs s c. either (E·ParseError .joined) (F·Parser .means (p .f) cs s c) (G·Parser .means (p .g) cs s c) };
+    ghost means = { λ p cs s c. either E.ParseError.joined (F.Parser.means p.f cs s c) (G.Parser.means p.g cs s c) };
 
-    ghost suffix = { λ p cs s c k w. either-suffix cs s (E·ParseError .joined) (F·Parser .means (p .f) cs s c) (G·Parser .means (p .g) cs s c) (F·Parser .suffix (p .f) cs s c k w) (G·Parser .suffix (p .g) cs s c k w) };
+    ghost suffix = { λ p cs s c k w. either_suffix cs s E.ParseError.joined (F.Parser.means p.f cs s c) (G.Parser.means p.g cs s c) (F.Parser.suffix p.f cs s c k w) (G.Parser.suffix p.g cs s c k w) };
 
     fn check<M: Manner>(&self, text: &T, span: Span) -> Checked<F::Output, E> {
         let Checked {
@@ -84,14 +76,11 @@ pub impl<
     }
 }
 
-pub impl<T: Text, I: Copy, E: ParseError, F: Subspan<T, I, E>, G: Subspan<T, I, E>> Subspan<
-    T,
-    I,
-    E,
-> for Or<F, G> as OrSubspan {
-    ghost cuts = { λ p cs s c. either (E·ParseError .joined) (F·Subspan .cuts (p .f) cs s c) (G·Subspan .cuts (p .g) cs s c) };
+impl<T: Text, I: Copy, E: ParseError, F: Subspan<T, I, E>, G: Subspan<T, I, E>> Subspan<T, I, E>
+    for Or<F, G> {
+    ghost cuts = { λ p cs s c. either E.ParseError.joined (F.Subspan.cuts p.f cs s c) (G.Subspan.cuts p.g cs s c) };
 
-    ghost inside = { λ p cs s c k w. either-inside cs s (E·ParseError .joined) (F·Subspan .cuts (p .f) cs s c) (G·Subspan .cuts (p .g) cs s c) (F·Subspan .inside (p .f) cs s c k w) (G·Subspan .inside (p .g) cs s c k w) };
+    ghost inside = { λ p cs s c k w. either_inside cs s E.ParseError.joined (F.Subspan.cuts p.f cs s c) (G.Subspan.cuts p.g cs s c) (F.Subspan.inside p.f cs s c k w) (G.Subspan.inside p.g cs s c k w) };
 
     fn cut<M: Manner>(&self, text: &T, span: Span) -> Result<(Span, Span), Fault<E>> {
         match self.f.cut::<M>(text, span) {
@@ -114,5 +103,5 @@ pub fn nestings_agree<
     G: Parser<T, I, E, Output = F::Output>,
     H: Parser<T, I, E, Output = F::Output>,
 >(_f: &F, _g: &G, _h: &H)
-    ensures { λ _. ⌜ ((f : F) (g : G) (h : H) (cs : List Cell) (s : Span) (c : Bool) → either (E·ParseError .joined) (either (E·ParseError .joined) (F·Parser .means f cs s c) (G·Parser .means g cs s c)) (H·Parser .means h cs s c) ≡ either (E·ParseError .joined) (F·Parser .means f cs s c) (either (E·ParseError .joined) (G·Parser .means g cs s c) (H·Parser .means h cs s c))) ⌝ }
+    ensures { (f : F) (g : G) (h : H) (cs : List Cell) (s : Span) (c : Bool) → either E.ParseError.joined (either E.ParseError.joined (F.Parser.means f cs s c) (G.Parser.means g cs s c)) (H.Parser.means h cs s c) ≡ either E.ParseError.joined (F.Parser.means f cs s c) (either E.ParseError.joined (G.Parser.means g cs s c) (H.Parser.means h cs s c)) }
 {}

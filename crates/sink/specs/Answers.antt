@@ -1,27 +1,18 @@
 -- The answers of a sink: when each call is refused, and what it leaves. Assumes nothing.
-use Prim.Native.Nat.{ℕ, zero, suc, _≤_, _<_}
-use mathlib.Core.Path.{_≡_}
-use mathlib.Core.Bool.{cond}
-use mathlib.Core.List.{List, [], _∷_, _++_}
-use lib.Dec.{ltb}
-use lib.ListN.{length}
-use Rattle·std.specs.declared.option.Option.{Option}
-use Rattle·std.specs.declared.option.Option.the-variants.{Some, None}
-use Rattle·std.specs.declared.result.Result.{Result}
-use Rattle·std.specs.declared.result.Result.the-variants.{Ok, Err}
-use Rattle·sink·specs.declared.Refusal.{Refusal}
-use Rattle·sink·specs.declared.Refusal.the-variants.{TooManyPlaces, Full, MarkAboveList, PastList}
+use Rattle.std.specs.Prelude.{◌≡◌, ℕ, zero, suc, ◌<◌, ◌≤◌, cond, List, [], ◌∷◌, ◌++◌, length, Some, None, Ok, Err, Option, Result, nat_lt}
+use Rattle.sink.specs.declared.Refusal.{Refusal}
+use Rattle.sink.specs.declared.Refusal.TheVariants.{TooManyPlaces, Full, MarkAboveList, PastList}
 
 -- each refusal's number
-abbrev pub number-of : Refusal → ℕ
-number-of (TooManyPlaces n) = 4
-number-of Full = 5
-number-of (MarkAboveList m n) = 6
-number-of (PastList at n) = 7
+abbrev pub number_of : Refusal → ℕ
+number_of (TooManyPlaces n) = 4
+number_of Full = 5
+number_of (MarkAboveList m n) = 6
+number_of (PastList at n) = 7
 
 -- a sink of over 65,536 places, with their number
 abbrev pub making : ℕ → Result (Unit {0}) Refusal
-making places = cond (ltb 65536 places) (Err (TooManyPlaces places)) (Ok tt)
+making places = cond (nat_lt 65536 places) (Err (TooManyPlaces places)) (Ok tt)
 
 -- a push: refused exactly at capacity, which leaves the list; else the item goes last
 pub data Pushes {I : Type 0} (places : ℕ) (before : List I) (x : I) (r : Result (Unit {0}) Refusal) (after : List I) : Type 0 where
@@ -30,7 +21,7 @@ pub data Pushes {I : Type 0} (places : ℕ) (before : List I) (x : I) (r : Resul
 
 -- a cut back of a list of this length to a mark: refused where the mark is above it, with both
 abbrev pub cutting : ℕ → ℕ → Result (Unit {0}) Refusal
-cutting len mark = cond (ltb len mark) (Err (MarkAboveList mark len)) (Ok tt)
+cutting len mark = cond (nat_lt len mark) (Err (MarkAboveList mark len)) (Ok tt)
 
 -- what stands at a place of a list, counted from 0
 abbrev pub lookup : {I : Type 0} → List I → ℕ → Option I
@@ -43,5 +34,5 @@ found (Some x) refusal = Ok x
 found None refusal = Err refusal
 
 -- a read: the item at a place, refused past the list with the place and the list's length
-abbrev pub item-at : {I : Type 0} → List I → ℕ → Result I Refusal
-item-at l at = found (lookup l at) (PastList at (length l))
+abbrev pub item_at : {I : Type 0} → List I → ℕ → Result I Refusal
+item_at l at = found (lookup l at) (PastList at (length l))

@@ -1,7 +1,5 @@
 -- What every sink keeps. Assumes nothing.
-use Prim.Native.Nat.{ℕ, _≤_}
-use mathlib.Core.List.{List}
-use lib.ListN.{length}
+use Rattle.std.specs.Prelude.{ℕ, ◌≤◌, List, length}
 
 -- the list is within the capacity, and that within the limit
 pub record Bounded {I : Type 0} (list : List I) (places : ℕ) : Type 0 where

@@ -1,13 +1,10 @@
 // A sink that only counts: its items are units, so it stores none.
-ghost use Prim.Native.Nat.{_≤_, min};
-ghost use mathlib.Core.Option.{none};
-ghost use mathlib.Core.Path.{_≡_};
-ghost use mathlib.Core.List.{[]};
-ghost use Rattle·sink·specs.Answers.{making};
-ghost use Rattle·sink·specs.Counts.{units, units-bounds};
-use super::Refusal;
-use super::SINK_LIMIT;
-use super::Sink;
+ghost use Rattle.std.specs.Prelude.{◌≡◌, ◌≤◌, min, []};
+ghost use Rattle.std.proofs.Math.Option.{none};
+ghost use Rattle.sink.specs.Answers.{making};
+ghost use Rattle.sink.specs.Counts.{units, units_bounds};
+
+use super::{Refusal, SINK_LIMIT, Sink};
 
 // How many items there are, and how many there can be.
 #[derive(Drop)]
@@ -21,7 +18,7 @@ pub struct Counter {
 impl Counter {
     // Whether a counter can have this capacity.
     pub fn check(places: usize) -> Result<(), Refusal>
-        ensures { λ r. ⌜ r ≡ making places ⌝ }
+        ensures { result ≡ making places }
     {
         if places > SINK_LIMIT {
             Err(Refusal::TooManyPlaces(places))
@@ -32,8 +29,8 @@ impl Counter {
 
     // An empty counter of this capacity, or of 65,536 where it is more.
     pub fn new(places: usize) -> Counter
-        ensures list { λ r. ⌜ units (r .len) ≡ [] ⌝ }
-        ensures cap { λ r. ⌜ r .places ≡ min 65536 places ⌝ }
+        ensures list { units result.len ≡ [] }
+        ensures cap { result.places ≡ min 65536 places }
     {
         Counter {
             len: 0,
@@ -42,16 +39,16 @@ impl Counter {
     }
 }
 
-pub impl Sink for Counter as CounterSink {
+impl Sink for Counter {
     type Item = ();
 
-    ghost list = { λ c. units (c .len) };
+    ghost list = { λ c. units c.len };
 
-    ghost cap = { λ c. c .places };
+    ghost cap = { λ c. c.places };
 
     ghost lent = { λ _. none };
 
-    ghost bounds = { λ c. units-bounds (c .len) (c .places) (c .within) (c .few) };
+    ghost bounds = { λ c. units_bounds c.len c.places c.within c.few };
 
     fn len(&self) -> usize {
         self.len

@@ -3,24 +3,19 @@
 // A sink means a list of items and a fixed capacity, at most 65,536. `push` appends an item, and refuses exactly at
 // capacity; `cut_back` shortens the list to a mark. Nothing else changes the list. A mark holds a length of the list and
 // is linear: it has to be spent, by `keep` or by `cut_back`, and only this module opens one.
-ghost use Prim.Native.Nat.{ℕ};
-ghost use base.Fml.{GName};
-ghost use denote.Ref.{now};
-ghost use mathlib.Core.Option.{Option};
-ghost use mathlib.Core.Path.{_≡_};
-ghost use mathlib.Core.List.{List};
-ghost use lib.ListN.{length, take as front};
-ghost use Rattle·sink·specs.Answers.{number-of, cutting, item-at, Pushes};
-ghost use Rattle·sink·specs.Bounds.{Bounded};
+ghost use Rattle.std.specs.Prelude.{◌≡◌, ℕ, List, length, take as front};
+ghost use Rattle.std.specs.Borrow.{GName};
+ghost use Rattle.std.proofs.Math.Option.{Option};
+ghost use Rattle.sink.specs.Answers.{number_of, cutting, item_at, Pushes};
+ghost use Rattle.sink.specs.Bounds.{Bounded};
+
 use std::fmt;
 
 pub mod counter;
 pub mod sheet;
 
 pub use counter::Counter;
-pub use counter::CounterSink;
 pub use sheet::Sheet;
-pub use sheet::SheetSink;
 
 // The most places that a sink may have.
 pub const SINK_LIMIT: usize = 65_536;
@@ -41,7 +36,7 @@ pub enum Refusal {
 impl Refusal {
     // Its number in the table of answers (docs/FORMAT.md).
     pub fn number(&self) -> u32
-        ensures { λ r. ⌜ r ≡ number-of (now (self .entry)) ⌝ }
+        ensures { result ≡ number_of self.now }
     {
         match self {
             Refusal::TooManyPlaces(_) => 4,
@@ -52,7 +47,7 @@ impl Refusal {
     }
 }
 
-pub impl fmt::Display for Refusal as RefusalDisplay {
+impl fmt::Display for Refusal {
     fn fmt<W: fmt::Write>(&self, f: &mut fmt::Formatter<W>) -> fmt::Result {
         match self {
             Refusal::TooManyPlaces(places) => write!(
@@ -80,7 +75,7 @@ pub struct Mark {
 impl Mark {
     // A length that was stored, as a mark again.
     pub fn at(len: usize) -> Mark
-        ensures { λ r. ⌜ r .len ≡ len ⌝ }
+        ensures { result.len ≡ len }
     {
         Mark { len }
     }
@@ -91,7 +86,7 @@ pub trait Sink {
     type Item: Copy;
 
     // the sink's meaning: its items, and the most that it can hold
-    ghost list: { Self → List Self·Item };
+    ghost list: { Self → List Self.Item };
 
     ghost cap: { Self → ℕ };
     // the name of the slice that it writes to, if it was lent one
@@ -101,31 +96,31 @@ pub trait Sink {
 
     // How many items the list has.
     fn len(&self) -> usize
-        ensures { λ r. ⌜ r ≡ length (list (now (self .entry))) ⌝ };
+        ensures { result ≡ length (list self.now) };
 
     fn capacity(&self) -> usize
-        ensures { λ r. ⌜ r ≡ cap (now (self .entry)) ⌝ };
+        ensures { result ≡ cap self.now };
 
     // Appends the item, or refuses it exactly where the list has as many items as the sink can hold.
     fn push(&mut self, item: Self::Item) -> Result<(), Refusal>
-        ensures cap { λ _. ⌜ cap (now (self .exit)) ≡ cap (now (self .entry)) ⌝ }
-        ensures lent { λ _. ⌜ lent (now (self .exit)) ≡ lent (now (self .entry)) ⌝ }
-        ensures pushes { λ r. ⌜ Pushes (cap (now (self .entry))) (list (now (self .entry))) item r (list (now (self .exit))) ⌝ };
+        ensures cap { cap self.new ≡ cap self.old }
+        ensures lent { lent self.new ≡ lent self.old }
+        ensures pushes { Pushes (cap self.old) (list self.old) item result (list self.new) };
 
     // The item at a place of the list.
     fn read(&self, at: usize) -> Result<Self::Item, Refusal>
-        ensures { λ r. ⌜ r ≡ item-at (list (now (self .entry))) at ⌝ };
+        ensures { result ≡ item_at (list self.now) at };
 
     // What an implementation does at `cut_back`: leaves the first `len` items, or refuses where there are fewer.
     fn truncate(&mut self, len: usize) -> Result<(), Refusal>
-        ensures cap { λ _. ⌜ cap (now (self .exit)) ≡ cap (now (self .entry)) ⌝ }
-        ensures lent { λ _. ⌜ lent (now (self .exit)) ≡ lent (now (self .entry)) ⌝ }
-        ensures answer { λ r. ⌜ r ≡ cutting (length (list (now (self .entry)))) len ⌝ }
-        ensures list { λ _. ⌜ list (now (self .exit)) ≡ front len (list (now (self .entry))) ⌝ };
+        ensures cap { cap self.new ≡ cap self.old }
+        ensures lent { lent self.new ≡ lent self.old }
+        ensures answer { result ≡ cutting (length (list self.old)) len }
+        ensures list { list self.new ≡ front len (list self.old) };
 
     // The length of the list, as a mark.
     fn mark(&self) -> Mark
-        ensures { λ r. ⌜ r .len ≡ length (list (now (self .entry))) ⌝ }
+        ensures { result.len ≡ length (list self.now) }
     {
         Mark { len: self.len() }
     }
@@ -138,10 +133,10 @@ pub trait Sink {
     // Spends a mark. Leaves that many items from the list's start, and frees the places of the rest. A mark above the
     // list is refused; the list is then as it was, since all of it lies below the mark.
     fn cut_back(&mut self, mark: Mark) -> Result<(), Refusal>
-        ensures cap { λ _. ⌜ cap (now (self .exit)) ≡ cap (now (self .entry)) ⌝ }
-        ensures lent { λ _. ⌜ lent (now (self .exit)) ≡ lent (now (self .entry)) ⌝ }
-        ensures answer { λ r. ⌜ r ≡ cutting (length (list (now (self .entry)))) (mark .len) ⌝ }
-        ensures list { λ _. ⌜ list (now (self .exit)) ≡ front (mark .len) (list (now (self .entry))) ⌝ }
+        ensures cap { cap self.new ≡ cap self.old }
+        ensures lent { lent self.new ≡ lent self.old }
+        ensures answer { result ≡ cutting (length (list self.old)) mark.len }
+        ensures list { list self.new ≡ front mark.len (list self.old) }
     {
         let Mark { len } = mark;
         self.truncate(len)

@@ -2,18 +2,12 @@
 //
 // The items stand in the slice's first places. A sheet uses at most 65,536 places, however many the slice has, so every
 // slice makes one, and `check` tells whether all of it is used.
-ghost use Prim.Native.Nat.{_+_, _<_};
-ghost use denote.Ref.{now, name};
-ghost use mathlib.Core.Option.{some};
-ghost use mathlib.Core.Path.{_≡_};
-ghost use mathlib.Core.List.{[]};
-ghost use lib.ListN.{length};
-ghost use Rattle·std.specs.declared.result.Result.the-variants.{Ok};
-ghost use Rattle·sink·specs.Answers.{making, item-at, Pushes};
-ghost use Rattle·sink·specs.Sheets.{sheet-list, sheet-cap, sheet-bounds};
-use super::Refusal;
-use super::SINK_LIMIT;
-use super::Sink;
+ghost use Rattle.std.specs.Prelude.{◌≡◌, ◌+◌, ◌<◌, [], length, Ok};
+ghost use Rattle.std.proofs.Math.Option.{some};
+ghost use Rattle.sink.specs.Answers.{making, item_at, Pushes};
+ghost use Rattle.sink.specs.Sheets.{sheet_list, sheet_cap, sheet_bounds};
+
+use super::{Refusal, SINK_LIMIT, Sink};
 
 // The places, and how many items stand in the first of them.
 #[derive(Drop)]
@@ -25,7 +19,7 @@ pub struct Sheet<'a, I> {
 impl<'a, I> Sheet<'a, I> {
     // Whether all the places can be used.
     pub fn check(places: &[I]) -> Result<(), Refusal>
-        ensures { λ r. ⌜ r ≡ making (length (now (places .entry))) ⌝ }
+        ensures { result ≡ making (length places.now) }
     {
         if places.len() > SINK_LIMIT {
             Err(Refusal::TooManyPlaces(places.len()))
@@ -36,10 +30,10 @@ impl<'a, I> Sheet<'a, I> {
 
     // An empty sheet over the places, of which it uses the first 65,536. It writes to the slice that it is handed.
     pub fn new(places: &'a mut [I]) -> Sheet<'a, I>
-        ensures lent { λ r. ⌜ name (r .places) ≡ name (places .entry) ⌝ }
-        ensures places { λ r. ⌜ now (r .places) ≡ now (places .entry) ⌝ }
-        ensures list { λ r. ⌜ sheet-list (now (r .places)) (r .len) ≡ [] ⌝ }
-        ensures cap { λ r. ⌜ sheet-cap (now (r .places)) ≡ sheet-cap (now (places .entry)) ⌝ }
+        ensures lent { result.places.ghost_name ≡ places.entry.ghost_name }
+        ensures places { result.places.now ≡ places.old }
+        ensures list { sheet_list result.places.now result.len ≡ [] }
+        ensures cap { sheet_cap result.places.now ≡ sheet_cap places.old }
     {
         Sheet { places, len: 0 }
     }
@@ -47,16 +41,16 @@ impl<'a, I> Sheet<'a, I> {
 
 // Writes an item into the place behind the first `len` items.
 fn put<I: Copy>(places: &mut [I], len: usize, item: I)
-    requires { ⌜ len < sheet-cap (now places) ⌝ }
-    ensures cap { λ _. ⌜ sheet-cap (now (places .exit)) ≡ sheet-cap (now (places .entry)) ⌝ }
-    ensures pushes { λ _. ⌜ Pushes (sheet-cap (now (places .entry))) (sheet-list (now (places .entry)) len) item (Ok tt) (sheet-list (now (places .exit)) (len + 1)) ⌝ }
+    requires { len < sheet_cap places.old }
+    ensures cap { sheet_cap places.new ≡ sheet_cap places.old }
+    ensures pushes { Pushes (sheet_cap places.old) (sheet_list places.old len) item (Ok tt) (sheet_list places.new (len + 1)) }
 {
     places[len] = item;
 }
 
 // The item at a place of a list.
 fn picked<I: Copy>(items: &[I], at: usize) -> Result<I, Refusal>
-    ensures { λ r. ⌜ r ≡ item-at (now (items .entry)) at ⌝ }
+    ensures { result ≡ item_at items.now at }
 {
     if at >= items.len() {
         return Err(Refusal::PastList(at, items.len()));
@@ -64,16 +58,16 @@ fn picked<I: Copy>(items: &[I], at: usize) -> Result<I, Refusal>
     Ok(items[at])
 }
 
-pub impl<'a, I: Copy> Sink for Sheet<'a, I> as SheetSink {
+impl<'a, I: Copy> Sink for Sheet<'a, I> {
     type Item = I;
 
-    ghost list = { λ s. sheet-list (now (s .places)) (s .len) };
+    ghost list = { λ s. sheet_list s.places.now s.len };
 
-    ghost cap = { λ s. sheet-cap (now (s .places)) };
+    ghost cap = { λ s. sheet_cap s.places.now };
 
-    ghost lent = { λ s. some (name (s .places)) };
+    ghost lent = { λ s. some s.places.ghost_name };
 
-    ghost bounds = { λ s. sheet-bounds (now (s .places)) (s .len) };
+    ghost bounds = { λ s. sheet_bounds s.places.now s.len };
 
     fn len(&self) -> usize {
         self.len.min(self.capacity())
@@ -110,7 +104,7 @@ pub impl<'a, I: Copy> Sink for Sheet<'a, I> as SheetSink {
 impl<'a, I: Copy> Sheet<'a, I> {
     // The list, as a slice.
     pub fn items(&self) -> &[I]
-        ensures { λ r. ⌜ now r ≡ sheet-list (now (now (self .entry) .places)) (now (self .entry) .len) ⌝ }
+        ensures { result.now ≡ sheet_list self.now.places.now self.now.len }
     {
         let len = self.len();
         &self.places[..len]
@@ -118,7 +112,7 @@ impl<'a, I: Copy> Sheet<'a, I> {
 
     // Ends the sheet, and gives its list.
     pub fn into_items(self) -> &'a mut [I]
-        ensures { λ r. ⌜ now r ≡ sheet-list (now (self .entry .places)) (self .entry .len) ⌝ }
+        ensures { result.now ≡ sheet_list self.entry.places.now self.entry.len }
     {
         let len = self.len();
         let Sheet { places, len: _ } = self;

@@ -1,14 +1,6 @@
 // Sinks one place below, at and above their limits.
-use sink::Counter;
-use sink::CounterSink;
-use sink::Refusal;
-use sink::RefusalDebug;
-use sink::RefusalDisplay;
-use sink::RefusalPartialEq;
-use sink::Sheet;
-use sink::SheetSink;
-use sink::Sink;
-use std::test::*;
+use sink::{Counter, Refusal, Sheet, Sink};
+use std::test::Fail;
 
 // A number of places, whether it is accepted, and the capacity that comes of it.
 const CAPACITIES: [(usize, bool, usize); 6] = [
@@ -21,43 +13,44 @@ const CAPACITIES: [(usize, bool, usize); 6] = [
 ];
 
 #[test]
-fn capacities(rt: LibcRuntime) -> Result<(), Fail> {
+fn capacities(rt: HostRuntime) -> Result<(), Fail> {
     for (places, accepted, capacity) in CAPACITIES {
         let answer = if accepted {
             Ok(())
         } else {
             Err(Refusal::TooManyPlaces(places))
         };
-        check_eq(Counter::check(places), answer)?;
-        check_eq(Counter::new(places).capacity(), capacity)?;
+        assert_eq!(rt; Counter::check(places), answer);
+        assert_eq!(rt; Counter::new(places).capacity(), capacity);
         let mut bytes = Vec::from_elem(rt.alloc(), 0u8, places)?;
-        check_eq(Sheet::check(bytes.as_slice()), answer)?;
+        assert_eq!(rt; Sheet::check(bytes.as_slice()), answer);
         let sheet = Sheet::new(bytes.as_mut_slice());
-        check_eq(sheet.capacity(), capacity)?;
-        check_eq(sheet.len(), 0)?;
+        assert_eq!(rt; sheet.capacity(), capacity);
+        assert_eq!(rt; sheet.len(), 0);
     }
     Ok(())
 }
 
 // Each place up to the limit takes an item, and the one behind it takes none.
 #[test]
-fn full_at_the_limit(rt: LibcRuntime) -> Result<(), Fail> {
+fn full_at_the_limit(rt: HostRuntime) -> Result<(), Fail> {
     let mut bytes = Vec::from_elem(rt.alloc(), 0u8, 65_537)?;
     let mut sheet = Sheet::new(bytes.as_mut_slice());
     let mut counter = Counter::new(65_537);
     for _ in 0..65_536u32 {
-        check_eq(sheet.push(7), Ok(()))?;
-        check_eq(counter.push(()), Ok(()))?;
+        assert_eq!(rt; sheet.push(7), Ok(()));
+        assert_eq!(rt; counter.push(()), Ok(()));
     }
-    check_eq(sheet.push(7), Err(Refusal::Full))?;
-    check_eq(counter.push(()), Err(Refusal::Full))?;
-    check_eq(sheet.read(65_535), Ok(7))?;
-    check_eq(sheet.read(65_536), Err(Refusal::PastList(65_536, 65_536)))?;
-    check_eq(counter.len(), 65_536)
+    assert_eq!(rt; sheet.push(7), Err(Refusal::Full));
+    assert_eq!(rt; counter.push(()), Err(Refusal::Full));
+    assert_eq!(rt; sheet.read(65_535), Ok(7));
+    assert_eq!(rt; sheet.read(65_536), Err(Refusal::PastList(65_536, 65_536)));
+    assert_eq!(rt; counter.len(), 65_536);
+    Ok(())
 }
 
 #[test]
-fn refusals_by_number_and_in_words(rt: LibcRuntime) -> Result<(), Fail> {
+fn refusals_by_number_and_in_words(rt: HostRuntime) -> Result<(), Fail> {
     let heap = rt.alloc();
     let told = [
         (
@@ -78,8 +71,8 @@ fn refusals_by_number_and_in_words(rt: LibcRuntime) -> Result<(), Fail> {
         ),
     ];
     for (refusal, number, words) in told {
-        check_eq(refusal.number(), number)?;
-        check(format!(heap, "{refusal}")?.as_str() == words)?;
+        assert_eq!(rt; refusal.number(), number);
+        assert!(rt; format!(in heap; "{refusal}")?.as_str() == words);
     }
     Ok(())
 }

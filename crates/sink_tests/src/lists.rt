@@ -1,30 +1,21 @@
 // What pushing, reading, marking and cutting back come to.
-use sink::Counter;
-use sink::CounterSink;
-use sink::Mark;
-use sink::Refusal;
-use sink::RefusalDebug;
-use sink::RefusalPartialEq;
-use sink::Sheet;
-use sink::SheetSink;
-use sink::Sink;
-use std::test::*;
+use sink::{Counter, Mark, Refusal, Sheet, Sink};
 
 #[test]
-fn no_places() -> Result<(), Fail> {
+fn no_places(rt: HostRuntime) {
     let mut none: [u8; 0] = [];
     let mut sheet = Sheet::new(&mut none);
-    check_eq(sheet.push(1), Err(Refusal::Full))?;
-    check_eq(sheet.read(0), Err(Refusal::PastList(0, 0)))?;
-    check_eq(sheet.cut_back(Mark::at(0)), Ok(()))?;
-    check_eq(sheet.items().len(), 0)?;
+    assert_eq!(rt; sheet.push(1), Err(Refusal::Full));
+    assert_eq!(rt; sheet.read(0), Err(Refusal::PastList(0, 0)));
+    assert_eq!(rt; sheet.cut_back(Mark::at(0)), Ok(()));
+    assert_eq!(rt; sheet.items().len(), 0);
     let mut counter = Counter::new(0);
-    check_eq(counter.push(()), Err(Refusal::Full))?;
-    check_eq(counter.read(0), Err(Refusal::PastList(0, 0)))?;
-    check_eq(
+    assert_eq!(rt; counter.push(()), Err(Refusal::Full));
+    assert_eq!(rt; counter.read(0), Err(Refusal::PastList(0, 0)));
+    assert_eq!(rt;
         counter.cut_back(Mark::at(1)),
-        Err(Refusal::MarkAboveList(1, 0)),
-    )
+        Err(Refusal::MarkAboveList(1, 0))
+    );
 }
 
 // Three of four places are taken. A place, and what is read there.
@@ -37,23 +28,22 @@ const READS: [(usize, Result<u8, Refusal>); 5] = [
 ];
 
 #[test]
-fn reads() -> Result<(), Fail> {
+fn reads(rt: HostRuntime) {
     for (at, item) in READS {
         let mut places = [0u8; 4];
         let mut sheet = Sheet::new(&mut places);
         let mut counter = Counter::new(4);
         for pushed in [10, 20, 30] {
-            check_eq(sheet.push(pushed), Ok(()))?;
-            check_eq(counter.push(()), Ok(()))?;
+            assert_eq!(rt; sheet.push(pushed), Ok(()));
+            assert_eq!(rt; counter.push(()), Ok(()));
         }
-        check_eq(sheet.read(at), item)?;
+        assert_eq!(rt; sheet.read(at), item);
         let unit = match item {
             Ok(_) => Ok(()),
             Err(refusal) => Err(refusal),
         };
-        check_eq(counter.read(at), unit)?;
+        assert_eq!(rt; counter.read(at), unit);
     }
-    Ok(())
 }
 
 // A full list of three items is cut back. A mark, the answer, and the list that is left.
@@ -70,46 +60,45 @@ const CUTS: [(usize, Result<(), Refusal>, &[u8]); 5] = [
 ];
 
 #[test]
-fn cuts() -> Result<(), Fail> {
+fn cuts(rt: HostRuntime) {
     for (mark, answer, left) in CUTS {
         let mut places = [0u8; 3];
         let mut sheet = Sheet::new(&mut places);
         let mut counter = Counter::new(3);
         for pushed in [10, 20, 30] {
-            check_eq(sheet.push(pushed), Ok(()))?;
-            check_eq(counter.push(()), Ok(()))?;
+            assert_eq!(rt; sheet.push(pushed), Ok(()));
+            assert_eq!(rt; counter.push(()), Ok(()));
         }
-        check_eq(sheet.cut_back(Mark::at(mark)), answer)?;
-        check(sheet.items() == left)?;
-        check_eq(counter.cut_back(Mark::at(mark)), answer)?;
-        check_eq(counter.len(), left.len())?;
+        assert_eq!(rt; sheet.cut_back(Mark::at(mark)), answer);
+        assert!(rt; sheet.items() == left);
+        assert_eq!(rt; counter.cut_back(Mark::at(mark)), answer);
+        assert_eq!(rt; counter.len(), left.len());
         // The freed places take items again, and no more than those.
         for at in left.len()..3 {
-            check_eq(sheet.push(40), Ok(()))?;
-            check_eq(sheet.read(at), Ok(40))?;
-            check_eq(counter.push(()), Ok(()))?;
+            assert_eq!(rt; sheet.push(40), Ok(()));
+            assert_eq!(rt; sheet.read(at), Ok(40));
+            assert_eq!(rt; counter.push(()), Ok(()));
         }
-        check_eq(sheet.push(40), Err(Refusal::Full))?;
-        check_eq(counter.push(()), Err(Refusal::Full))?;
+        assert_eq!(rt; sheet.push(40), Err(Refusal::Full));
+        assert_eq!(rt; counter.push(()), Err(Refusal::Full));
     }
-    Ok(())
 }
 
 #[test]
-fn keeping_leaves_the_list() -> Result<(), Fail> {
+fn keeping_leaves_the_list(rt: HostRuntime) {
     let mut places = [0u8; 3];
     let mut sheet = Sheet::new(&mut places);
-    check_eq(sheet.push(10), Ok(()))?;
+    assert_eq!(rt; sheet.push(10), Ok(()));
     let mark = sheet.mark();
     let pushed = sheet.push(20);
     sheet.keep(mark);
-    check_eq(pushed, Ok(()))?;
-    check(sheet.items() == &[10, 20])?;
+    assert_eq!(rt; pushed, Ok(()));
+    assert!(rt; sheet.items() == &[10, 20]);
     let mark = sheet.mark();
     let pushed = sheet.push(30);
     let cut = sheet.cut_back(mark);
-    check_eq(pushed, Ok(()))?;
-    check_eq(cut, Ok(()))?;
+    assert_eq!(rt; pushed, Ok(()));
+    assert_eq!(rt; cut, Ok(()));
     let items: &[u8] = sheet.into_items();
-    check(items == &[10, 20])
+    assert!(rt; items == &[10, 20]);
 }

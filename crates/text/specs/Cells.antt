@@ -1,12 +1,5 @@
 -- A text by its items: the code of each and its width in bytes. Assumes nothing.
-use Prim.Native.Nat.{ℕ, zero, suc, _+_, _-_, _≤_, _<_}
-use mathlib.Core.Path.{_≡_}
-use mathlib.Core.Bool.{Bool, true, false, _&&_}
-use mathlib.Core.List.{List, [], _∷_}
-use lib.Dec.{leb}
-use lib.ListN.{length}
-use Rattle·std.specs.declared.option.Option.{Option}
-use Rattle·std.specs.declared.option.Option.the-variants.{Some, None}
+use Rattle.std.specs.Prelude.{◌≡◌, ℕ, zero, suc, ◌+◌, ◌-◌, ◌<◌, ◌≤◌, Bool, true, false, ◌&&◌, List, [], ◌∷◌, length, Some, None, Option, nat_le}
 
 -- an item's code and its width in bytes
 abbrev pub Cell : Type 0
@@ -15,30 +8,30 @@ Cell = ℕ × ℕ
 -- the bytes that a list of items takes
 abbrev pub total : List Cell → ℕ
 total [] = 0
-total (c ∷ cs) = c .1 + total cs
+total (c ∷ cs) = c.1 + total cs
 
 -- no item is empty
 abbrev pub Solid : List Cell → Type 0
 Solid [] = Unit {0}
-Solid (c ∷ cs) = (0 < c .1) × Solid cs
+Solid (c ∷ cs) = (0 < c.1) × Solid cs
 
 -- whether an item starts at byte n, or the text ends there
 abbrev pub boundary : List Cell → ℕ → Bool
 boundary cs zero = true
 boundary [] (suc n) = false
-boundary (c ∷ cs) (suc n) = leb (c .1) (suc n) && boundary cs (suc n - c .1)
+boundary (c ∷ cs) (suc n) = nat_le c.1 (suc n) && boundary cs (suc n - c.1)
 
 -- the items from byte n on
 abbrev pub after : ℕ → List Cell → List Cell
 after zero cs = cs
 after (suc n) [] = []
-after (suc n) (c ∷ cs) = after (suc n - c .1) cs
+after (suc n) (c ∷ cs) = after (suc n - c.1) cs
 
 -- the items that start below byte n
 abbrev pub before : ℕ → List Cell → List Cell
 before zero cs = []
 before (suc n) [] = []
-before (suc n) (c ∷ cs) = c ∷ before (suc n - c .1) cs
+before (suc n) (c ∷ cs) = c ∷ before (suc n - c.1) cs
 
 -- the items of the span from byte s to byte e
 abbrev pub cut : List Cell → ℕ → ℕ → List Cell

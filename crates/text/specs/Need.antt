@@ -1,8 +1,8 @@
 -- How much more input is needed. Assumes nothing.
-use Prim.Native.Nat.{ℕ, zero, suc, zero-le, suc-le-suc}
-use mathlib.Core.Bool.{Bool, true, false}
-use Rattle·text·specs.declared.Needed.{Needed}
-use Rattle·text·specs.declared.Needed.the-variants.{Unknown, Size}
+use Rattle.std.specs.Prelude.{ℕ, zero, suc, Bool, true, false}
+use Rattle.std.proofs.Common.{zero-le, suc-le-suc}
+use Rattle.text.specs.declared.Needed.{Needed}
+use Rattle.text.specs.declared.Needed.TheVariants.{Unknown, Size}
 
 -- n more bytes, which are unknown where n is 0, since a size is never 0
 abbrev pub needed : ℕ → Needed

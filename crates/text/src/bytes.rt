@@ -1,45 +1,34 @@
 // Texts and tags whose items are bytes.
-ghost use Prim.Native.Nat.{ℕ, _+_, _≤_, _<_};
-ghost use denote.Ref.{now};
-ghost use mathlib.Core.Path.{_≡_};
-ghost use mathlib.Core.Bool.{false};
-ghost use lib.ListN.{length, getD, drop as rest};
-ghost use Rattle·text·specs.Cells.{singles};
-ghost use Rattle·text·specs.Singles.{singles-lawful, singles-short};
-ghost use Rattle·text·specs.Search.{matched, until, is};
-ghost use Rattle·text·specs.Laws.{FirstByte};
-ghost use Rattle·text·specs.Need.{needed};
-ghost use Rattle·text·specs.Answers.{byte-text-check, byte-tag-check, kept};
-use super::CompareResult;
-use super::Is;
-use super::IsPredicate;
-use super::Needed;
-use super::Needle;
-use super::Predicate;
-use super::Refusal;
-use super::Span;
-use super::TAG_LIMIT;
-use super::TEXT_LIMIT;
-use super::Text;
+ghost use Rattle.std.specs.Prelude.{◌≡◌, ℕ, ◌+◌, ◌<◌, ◌≤◌, false, length, drop as rest, ◌≢◌, slice_index};
+ghost use Rattle.text.specs.Cells.{singles};
+ghost use Rattle.text.specs.Singles.{singles_lawful, singles_short};
+ghost use Rattle.text.specs.Search.{matched, until, is};
+ghost use Rattle.text.specs.Laws.{FirstByte};
+ghost use Rattle.text.specs.Need.{needed};
+ghost use Rattle.text.specs.Answers.{byte_text_check, byte_tag_check, kept};
+
+use super::{
+    CompareResult, Is, Needed, Needle, Predicate, Refusal, Span, TAG_LIMIT, TEXT_LIMIT, Text,
+};
 
 // A tag of bytes.
 #[derive(Clone, Copy)]
 pub struct ByteTag<'a> {
     bytes: &'a [u8],
-    ghost few: { length (now bytes) ≤ 32 },
+    ghost few: { length bytes.now ≤ 32 },
 }
 
 // A text of bytes.
 #[derive(Clone, Copy)]
 pub struct ByteText<'a> {
     bytes: &'a [u8],
-    ghost few: { length (now bytes) ≤ 1048576 },
+    ghost few: { length bytes.now ≤ 1048576 },
 }
 
 impl<'a> ByteTag<'a> {
     // Whether the bytes are a tag.
     pub fn check(bytes: &[u8]) -> Result<(), Refusal>
-        ensures { λ r. ⌜ r ≡ byte-tag-check (now (bytes .entry)) ⌝ }
+        ensures { result ≡ byte_tag_check bytes.now }
     {
         if bytes.len() > TAG_LIMIT {
             Err(Refusal::TagTooLong(bytes.len()))
@@ -50,7 +39,7 @@ impl<'a> ByteTag<'a> {
 
     // The bytes as a tag, or an empty tag where they are refused.
     pub fn new(bytes: &'a [u8]) -> ByteTag<'a>
-        ensures { λ r. ⌜ now (r .bytes) ≡ kept (byte-tag-check (now (bytes .entry))) (now (bytes .entry)) ⌝ }
+        ensures { result.bytes.now ≡ kept (byte_tag_check bytes.now) bytes.now }
     {
         match ByteTag::check(bytes) {
             Ok(_) => ByteTag { bytes },
@@ -64,7 +53,7 @@ impl<'a> ByteTag<'a> {
 impl<'a> ByteText<'a> {
     // Whether the bytes are a text.
     pub fn check(bytes: &[u8]) -> Result<(), Refusal>
-        ensures { λ r. ⌜ r ≡ byte-text-check (now (bytes .entry)) ⌝ }
+        ensures { result ≡ byte_text_check bytes.now }
     {
         if bytes.len() > TEXT_LIMIT {
             Err(Refusal::TextTooLong(bytes.len()))
@@ -75,7 +64,7 @@ impl<'a> ByteText<'a> {
 
     // The bytes as a text, or an empty text where they are refused.
     pub fn new(bytes: &'a [u8]) -> ByteText<'a>
-        ensures { λ r. ⌜ now (r .bytes) ≡ kept (byte-text-check (now (bytes .entry))) (now (bytes .entry)) ⌝ }
+        ensures { result.bytes.now ≡ kept (byte_text_check bytes.now) bytes.now }
     {
         match ByteText::check(bytes) {
             Ok(_) => ByteText { bytes },
@@ -88,7 +77,7 @@ impl<'a> ByteText<'a> {
 
 // How bytes compare with a tag's bytes.
 pub fn compare_bytes(text: &[u8], tag: &[u8]) -> CompareResult
-    ensures { λ r. ⌜ r ≡ matched (singles (now (text .entry))) (singles (now (tag .entry))) ⌝ }
+    ensures { result ≡ matched (singles text.now) (singles tag.now) }
 {
     let mut i = 0;
     while i < tag.len() {
@@ -108,8 +97,8 @@ const WINDOW: usize = 32;
 
 // Whether the window from `at` on has the byte. With no way out of the loop it is compiled to a few vector operations.
 fn window_has(bytes: &[u8], at: usize, byte: u8) -> bool
-    requires { ⌜ at + 32 ≤ length (now bytes) ⌝ }
-    ensures { λ r. ⌜ (r ≡ false → (k : ℕ) → at ≤ k → k < at + 32 → getD (now (bytes .entry)) k 0 ≡ byte → ⊥) ⌝ }
+    requires { at + 32 ≤ length bytes.now }
+    ensures { result ≡ false → (k : ℕ) → at ≤ k → k < at + 32 → slice_index bytes.now k ≢ byte }
 {
     let mut has = false;
     for i in at..at + WINDOW {
@@ -120,8 +109,8 @@ fn window_has(bytes: &[u8], at: usize, byte: u8) -> bool
 
 // A number of bytes from the front that do not have the byte, in whole windows: past them it is near, or the end is.
 fn skip_windows(bytes: &[u8], byte: u8) -> usize
-    ensures within { λ r. ⌜ r ≤ length (now (bytes .entry)) ⌝ }
-    ensures skipped { λ r. ⌜ r + until (is byte) (singles (rest r (now (bytes .entry)))) ≡ until (is byte) (singles (now (bytes .entry))) ⌝ }
+    ensures within { result ≤ length bytes.now }
+    ensures skipped { result + until (is byte) (singles (rest result bytes.now)) ≡ until (is byte) (singles bytes.now) }
 {
     let mut at = 0;
     while bytes.len() - at >= WINDOW && !window_has(bytes, at, byte) {
@@ -132,8 +121,8 @@ fn skip_windows(bytes: &[u8], byte: u8) -> usize
 
 // How many bytes come before the first that is `byte`: all of them where none is.
 pub fn find_byte(bytes: &[u8], byte: u8) -> usize
-    ensures value { λ r. ⌜ r ≡ until (is byte) (singles (now (bytes .entry))) ⌝ }
-    ensures first { λ r. ⌜ FirstByte (now (bytes .entry)) byte r ⌝ }
+    ensures value { result ≡ until (is byte) (singles bytes.now) }
+    ensures first { FirstByte bytes.now byte result }
 {
     let mut at = skip_windows(bytes, byte);
     while at < bytes.len() && bytes[at] != byte {
@@ -142,10 +131,10 @@ pub fn find_byte(bytes: &[u8], byte: u8) -> usize
     at
 }
 
-pub impl<'a> Needle for ByteTag<'a> as ByteTagNeedle {
-    ghost spelt = { λ t. singles (now (t .bytes)) };
+impl<'a> Needle for ByteTag<'a> {
+    ghost spelt = { λ t. singles t.bytes.now };
 
-    ghost short = { λ t. singles-short (now (t .bytes)) (t .few) };
+    ghost short = { λ t. singles_short t.bytes.now t.few };
 
     fn len(&self) -> usize {
         self.bytes.len()
@@ -160,14 +149,14 @@ pub impl<'a> Needle for ByteTag<'a> as ByteTagNeedle {
     }
 }
 
-pub impl<'a> Text for ByteText<'a> as ByteTextText {
+impl<'a> Text for ByteText<'a> {
     type Tag = ByteTag<'a>;
 
-    ghost cells = { λ t. singles (now (t .bytes)) };
+    ghost cells = { λ t. singles t.bytes.now };
 
-    ghost raw = { λ t. now (t .bytes) };
+    ghost raw = { λ t. t.bytes.now };
 
-    ghost lawful = { λ t. singles-lawful (now (t .bytes)) (t .few) };
+    ghost lawful = { λ t. singles_lawful t.bytes.now t.few };
 
     ghost lack = { needed };
 

@@ -6,33 +6,21 @@
 //
 // Offsets that a text answers count bytes from the start of the span that was asked about, as nom's count from the
 // start of the input.
-ghost use Prim.Native.Nat.{ℕ, _-_};
-ghost use denote.Ref.{now};
-ghost use mathlib.Core.Path.{_≡_};
-ghost use mathlib.Core.Bool.{Bool, true, false};
-ghost use mathlib.Core.List.{List};
-ghost use lib.Dec.{leb};
-ghost use lib.ListN.{take as front, drop as rest};
-ghost use Rattle·text·specs.declared.Needed.{Needed};
-ghost use Rattle·text·specs.Cells.{Cell, total, boundary, cut, Within, first, Lawful, Short};
-ghost use Rattle·text·specs.Search.{matched, until, is, sliced, code-of};
-ghost use Rattle·text·specs.Need.{needed, known};
-ghost use Rattle·text·specs.Answers.{number-of};
+ghost use Rattle.std.specs.Prelude.{◌≡◌, ℕ, ◌-◌, Bool, true, false, List, take as front, drop as rest, nat_le};
+ghost use Rattle.text.specs.declared.Needed.{Needed};
+ghost use Rattle.text.specs.Cells.{Cell, total, boundary, cut, Within, first, Lawful, Short};
+ghost use Rattle.text.specs.Search.{matched, until, is, sliced, code_of};
+ghost use Rattle.text.specs.Need.{needed, known};
+ghost use Rattle.text.specs.Answers.{number_of};
+
 use std::fmt;
 use std::num::NonZeroUsize;
 
 pub mod bytes;
 pub mod search;
 
-pub use bytes::ByteTag;
-pub use bytes::ByteTagNeedle;
-pub use bytes::ByteText;
-pub use bytes::ByteTextText;
-pub use search::count_items;
-pub use search::count_lines;
-pub use search::find;
-pub use search::starts_with;
-pub use search::whole;
+pub use bytes::{ByteTag, ByteText};
+pub use search::{count_items, count_lines, find, starts_with, whole};
 
 // The most bytes that a text may have.
 pub const TEXT_LIMIT: usize = 1_048_576;
@@ -50,13 +38,13 @@ pub struct Span {
 impl Span {
     // How many bytes it has.
     pub fn len(self) -> usize
-        ensures { λ r. ⌜ r ≡ self .end - self .start ⌝ }
+        ensures { result ≡ self.end - self.start }
     {
         self.end.saturating_sub(self.start)
     }
 
     pub fn is_empty(self) -> bool
-        ensures { λ r. ⌜ r ≡ leb (self .end) (self .start) ⌝ }
+        ensures { result ≡ nat_le self.end self.start }
     {
         self.end <= self.start
     }
@@ -72,7 +60,7 @@ pub enum Needed {
 impl Needed {
     // `n` more bytes; unknown where `n` is 0.
     pub fn new(n: usize) -> Needed
-        ensures { λ r. ⌜ r ≡ needed n ⌝ }
+        ensures { result ≡ needed n }
     {
         match NonZeroUsize::new(n) {
             Some(size) => Needed::Size(size),
@@ -81,7 +69,7 @@ impl Needed {
     }
 
     pub fn is_known(&self) -> bool
-        ensures { λ r. ⌜ r ≡ known (now (self .entry)) ⌝ }
+        ensures { result ≡ known self.now }
     {
         match self {
             Needed::Unknown => false,
@@ -96,13 +84,13 @@ pub trait Manner {
     ghost complete: { Bool };
 
     fn is_complete() -> bool
-        ensures { λ r. ⌜ r ≡ complete ⌝ };
+        ensures { result ≡ complete };
 }
 
 #[derive(Clone, Copy)]
 pub struct Streaming;
 
-pub impl Manner for Streaming as StreamingManner {
+impl Manner for Streaming {
     ghost complete = { false };
 
     fn is_complete() -> bool {
@@ -113,7 +101,7 @@ pub impl Manner for Streaming as StreamingManner {
 #[derive(Clone, Copy)]
 pub struct Complete;
 
-pub impl Manner for Complete as CompleteManner {
+impl Manner for Complete {
     ghost complete = { true };
 
     fn is_complete() -> bool {
@@ -146,7 +134,7 @@ pub enum Refusal {
 impl Refusal {
     // Its number in the table of answers (docs/FORMAT.md).
     pub fn number(&self) -> u32
-        ensures { λ r. ⌜ r ≡ number-of (now (self .entry)) ⌝ }
+        ensures { result ≡ number_of self.now }
     {
         match self {
             Refusal::TextTooLong(_) => 1,
@@ -156,7 +144,7 @@ impl Refusal {
     }
 }
 
-pub impl fmt::Display for Refusal as RefusalDisplay {
+impl fmt::Display for Refusal {
     fn fmt<W: fmt::Write>(&self, f: &mut fmt::Formatter<W>) -> fmt::Result {
         match self {
             Refusal::TextTooLong(len) => write!(
@@ -180,7 +168,7 @@ pub trait Predicate {
     ghost holds: { Self → ℕ → Bool };
 
     fn test(&self, item: u32) -> bool
-        ensures { λ r. ⌜ r ≡ holds (now (self .entry)) item ⌝ };
+        ensures { result ≡ holds self.now item };
 }
 
 // The test for one code.
@@ -189,8 +177,8 @@ pub struct Is {
     pub code: u32,
 }
 
-pub impl Predicate for Is as IsPredicate {
-    ghost holds = { λ p. is (p .code) };
+impl Predicate for Is {
+    ghost holds = { λ p. is p.code };
 
     fn test(&self, item: u32) -> bool {
         item == self.code
@@ -206,11 +194,11 @@ pub trait Needle {
 
     // How many bytes it has.
     fn len(&self) -> usize
-        ensures { λ r. ⌜ r ≡ total (spelt (now (self .entry))) ⌝ };
+        ensures { result ≡ total (spelt self.now) };
 
     // The code of its first item.
     fn first(&self) -> Option<u32>
-        ensures { λ r. ⌜ r ≡ code-of (first (spelt (now (self .entry)))) ⌝ };
+        ensures { result ≡ code_of (first (spelt self.now)) };
 }
 
 // What a text answers. A span that it is asked about lies in the text, on item boundaries.
@@ -228,39 +216,39 @@ pub trait Text {
 
     // How many bytes the text has.
     fn len(&self) -> usize
-        ensures { λ r. ⌜ r ≡ total (cells (now (self .entry))) ⌝ };
+        ensures { result ≡ total (cells self.now) };
 
     // Whether an item starts at byte `at`, or the text ends there.
     fn is_boundary(&self, at: usize) -> bool
-        ensures { λ r. ⌜ r ≡ boundary (cells (now (self .entry))) at ⌝ };
+        ensures { result ≡ boundary (cells self.now) at };
 
     // The first item, as its code and its width.
     fn item(&self, span: Span) -> Option<(u32, usize)>
-        requires { ⌜ Within (cells (now self)) (span .start) (span .end) ⌝ }
-        ensures { λ r. ⌜ r ≡ first (cut (cells (now (self .entry))) (span .start) (span .end)) ⌝ };
+        requires { Within (cells self.now) span.start span.end }
+        ensures { result ≡ first (cut (cells self.now) span.start span.end) };
 
     // The bytes of the span, as a part of the text.
     fn bytes(&self, span: Span) -> &[u8]
-        requires { ⌜ Within (cells (now self)) (span .start) (span .end) ⌝ }
-        ensures { λ r. ⌜ now r ≡ front (span .end - span .start) (rest (span .start) (raw (now (self .entry)))) ⌝ };
+        requires { Within (cells self.now) span.start span.end }
+        ensures { result.now ≡ front (span.end - span.start) (rest span.start (raw self.now)) };
 
     // How the span compares with a tag, item by item.
     fn compare(&self, span: Span, tag: &Self::Tag) -> CompareResult
-        requires { ⌜ Within (cells (now self)) (span .start) (span .end) ⌝ }
-        ensures { λ r. ⌜ r ≡ matched (cut (cells (now (self .entry))) (span .start) (span .end)) (Tag·Needle .spelt (now (tag .entry))) ⌝ };
+        requires { Within (cells self.now) span.start span.end }
+        ensures { result ≡ matched (cut (cells self.now) span.start span.end) (Self.Tag.Needle.spelt tag.now) };
 
     // How many bytes come before the first item that meets the predicate: all of the span where none does.
     fn position<P: Predicate>(&self, span: Span, predicate: &P) -> usize
-        requires { ⌜ Within (cells (now self)) (span .start) (span .end) ⌝ }
-        ensures { λ r. ⌜ r ≡ until (P·Predicate .holds (now (predicate .entry))) (cut (cells (now (self .entry))) (span .start) (span .end)) ⌝ };
+        requires { Within (cells self.now) span.start span.end }
+        ensures { result ≡ until (P.Predicate.holds predicate.now) (cut (cells self.now) span.start span.end) };
 
     // The same for the first item that has this code.
     fn position_of(&self, span: Span, code: u32) -> usize
-        requires { ⌜ Within (cells (now self)) (span .start) (span .end) ⌝ }
-        ensures { λ r. ⌜ r ≡ until (is code) (cut (cells (now (self .entry))) (span .start) (span .end)) ⌝ };
+        requires { Within (cells self.now) span.start span.end }
+        ensures { result ≡ until (is code) (cut (cells self.now) span.start span.end) };
 
     // How many bytes the first `count` items have, or what is needed where there are fewer.
     fn slice_index(&self, span: Span, count: usize) -> Result<usize, Needed>
-        requires { ⌜ Within (cells (now self)) (span .start) (span .end) ⌝ }
-        ensures { λ r. ⌜ r ≡ sliced lack count (cut (cells (now (self .entry))) (span .start) (span .end)) ⌝ };
+        requires { Within (cells self.now) span.start span.end }
+        ensures { result ≡ sliced lack count (cut (cells self.now) span.start span.end) };
 }

@@ -1,22 +1,10 @@
 // Texts and tags one byte below, at and above their limits.
-use std::test::*;
-use text::ByteTag;
-use text::ByteTagNeedle;
-use text::ByteText;
-use text::ByteTextText;
-use text::Needle;
-use text::Refusal;
-use text::RefusalDebug;
-use text::RefusalDisplay;
-use text::RefusalPartialEq;
-use text::Text;
-use utf8::Utf8Tag;
-use utf8::Utf8TagNeedle;
-use utf8::Utf8Text;
-use utf8::Utf8TextText;
+use std::test::Fail;
+use text::{ByteTag, ByteText, Needle, Refusal, Text};
+use utf8::{Utf8Tag, Utf8Text};
 
 #[test]
-fn texts(rt: LibcRuntime) -> Result<(), Fail> {
+fn texts(rt: HostRuntime) -> Result<(), Fail> {
     for len in [1_048_575usize, 1_048_576, 1_048_577] {
         let bytes = Vec::from_elem(rt.alloc(), b'a', len)?;
         let bytes = bytes.as_slice();
@@ -25,32 +13,33 @@ fn texts(rt: LibcRuntime) -> Result<(), Fail> {
         } else {
             (Err(Refusal::TextTooLong(len)), 0)
         };
-        check_eq(ByteText::check(bytes), answer)?;
-        check_eq(Utf8Text::check(bytes), answer)?;
-        check_eq(ByteText::new(bytes).len(), kept)?;
-        check_eq(Utf8Text::new(bytes).len(), kept)?;
+        assert_eq!(rt; ByteText::check(bytes), answer);
+        assert_eq!(rt; Utf8Text::check(bytes), answer);
+        assert_eq!(rt; ByteText::new(bytes).len(), kept);
+        assert_eq!(rt; Utf8Text::new(bytes).len(), kept);
     }
     Ok(())
 }
 
 // A text that is too long is refused for that, whatever its bytes.
 #[test]
-fn length_comes_before_form(rt: LibcRuntime) -> Result<(), Fail> {
+fn length_comes_before_form(rt: HostRuntime) -> Result<(), Fail> {
     let bytes = Vec::from_elem(rt.alloc(), 0xFF, 1_048_577)?;
-    check_eq(
+    assert_eq!(rt;
         Utf8Text::check(bytes.as_slice()),
-        Err(Refusal::TextTooLong(1_048_577)),
-    )?;
+        Err(Refusal::TextTooLong(1_048_577))
+    );
     let bytes = Vec::from_elem(rt.alloc(), 0xFF, 33)?;
-    check_eq(
+    assert_eq!(rt;
         Utf8Tag::check(bytes.as_slice()),
-        Err(Refusal::TagTooLong(33)),
-    )?;
-    check_eq(Utf8Tag::check(&[0xFF]), Err(Refusal::Malformed(0)))
+        Err(Refusal::TagTooLong(33))
+    );
+    assert_eq!(rt; Utf8Tag::check(&[0xFF]), Err(Refusal::Malformed(0)));
+    Ok(())
 }
 
 #[test]
-fn tags(rt: LibcRuntime) -> Result<(), Fail> {
+fn tags(rt: HostRuntime) -> Result<(), Fail> {
     for len in [0usize, 31, 32, 33] {
         let bytes = Vec::from_elem(rt.alloc(), b'a', len)?;
         let bytes = bytes.as_slice();
@@ -59,16 +48,16 @@ fn tags(rt: LibcRuntime) -> Result<(), Fail> {
         } else {
             (Err(Refusal::TagTooLong(len)), 0)
         };
-        check_eq(ByteTag::check(bytes), answer)?;
-        check_eq(Utf8Tag::check(bytes), answer)?;
-        check_eq(ByteTag::new(bytes).len(), kept)?;
-        check_eq(Utf8Tag::new(bytes).len(), kept)?;
+        assert_eq!(rt; ByteTag::check(bytes), answer);
+        assert_eq!(rt; Utf8Tag::check(bytes), answer);
+        assert_eq!(rt; ByteTag::new(bytes).len(), kept);
+        assert_eq!(rt; Utf8Tag::new(bytes).len(), kept);
     }
     Ok(())
 }
 
 #[test]
-fn refusals_by_number_and_in_words(rt: LibcRuntime) -> Result<(), Fail> {
+fn refusals_by_number_and_in_words(rt: HostRuntime) -> Result<(), Fail> {
     let heap = rt.alloc();
     let told = [
         (
@@ -88,8 +77,8 @@ fn refusals_by_number_and_in_words(rt: LibcRuntime) -> Result<(), Fail> {
         ),
     ];
     for (refusal, number, words) in told {
-        check_eq(refusal.number(), number)?;
-        check(format!(heap, "{refusal}")?.as_str() == words)?;
+        assert_eq!(rt; refusal.number(), number);
+        assert!(rt; format!(in heap; "{refusal}")?.as_str() == words);
     }
     Ok(())
 }

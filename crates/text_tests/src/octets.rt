@@ -1,11 +1,7 @@
 // RFC 3629 at its boundaries.
-use std::test::*;
-use text::Refusal;
-use text::RefusalDebug;
-use text::RefusalPartialEq;
-use utf8::Utf8Text;
-use utf8::Utf8TextText;
-use utf8::valid_up_to;
+use std::test::Fail;
+use text::{Refusal, Text};
+use utf8::{Utf8Text, valid_up_to};
 
 // Bytes, and how many of them the longest well-formed prefix has.
 const CASES: [(&[u8], usize); 56] = [
@@ -82,35 +78,34 @@ const CASES: [(&[u8], usize); 56] = [
 ];
 
 #[test]
-fn longest_well_formed_prefix() -> Result<(), Fail> {
+fn longest_well_formed_prefix(rt: HostRuntime) {
     for (bytes, valid) in CASES {
-        check_eq(valid_up_to(bytes), valid)?;
+        assert_eq!(rt; valid_up_to(bytes), valid);
         let answer = if valid == bytes.len() {
             Ok(())
         } else {
             Err(Refusal::Malformed(valid))
         };
-        check_eq(Utf8Text::check(bytes), answer)?;
+        assert_eq!(rt; Utf8Text::check(bytes), answer);
     }
-    Ok(())
 }
 
 // A broken byte at each place of a longer text, on either side of the windows that the check takes together.
 #[test]
-fn every_place_of_a_long_text(rt: LibcRuntime) -> Result<(), Fail> {
+fn every_place_of_a_long_text(rt: HostRuntime) -> Result<(), Fail> {
     for len in 0..200usize {
         let mut bytes = Vec::from_elem(rt.alloc(), b'a', len)?;
-        check_eq(valid_up_to(bytes.as_slice()), len)?;
+        assert_eq!(rt; valid_up_to(bytes.as_slice()), len);
         bytes.push(0xC3)?;
-        check_eq(valid_up_to(bytes.as_slice()), len)?;
+        assert_eq!(rt; valid_up_to(bytes.as_slice()), len);
         bytes.push(0xA9)?;
-        check_eq(valid_up_to(bytes.as_slice()), len.saturating_add(2))?;
+        assert_eq!(rt; valid_up_to(bytes.as_slice()), len.saturating_add(2));
         for _ in 0..100u8 {
             bytes.push(b'b')?;
         }
-        check_eq(valid_up_to(bytes.as_slice()), bytes.len())?;
+        assert_eq!(rt; valid_up_to(bytes.as_slice()), bytes.len());
         bytes.push(0x80)?;
-        check_eq(valid_up_to(bytes.as_slice()), len.saturating_add(102))?;
+        assert_eq!(rt; valid_up_to(bytes.as_slice()), len.saturating_add(102));
     }
     Ok(())
 }

@@ -1,23 +1,7 @@
 // What a text answers about its items.
 use std::num::NonZeroUsize;
-use std::test::*;
-use text::ByteTag;
-use text::ByteTagNeedle;
-use text::ByteText;
-use text::ByteTextText;
-use text::CompareResult;
-use text::CompareResultDebug;
-use text::CompareResultPartialEq;
-use text::Is;
-use text::IsPredicate;
-use text::Needed;
-use text::NeededDebug;
-use text::NeededPartialEq;
-use text::Text;
-use utf8::Utf8Tag;
-use utf8::Utf8TagNeedle;
-use utf8::Utf8Text;
-use utf8::Utf8TextText;
+use text::{ByteTag, ByteText, CompareResult, Is, Needed, Text};
+use utf8::{Utf8Tag, Utf8Text};
 
 // A text, a tag, how they compare, and where the tag is found, in bytes.
 const COMPARED: [(&str, &str, CompareResult, Option<usize>); 14] = [
@@ -48,28 +32,27 @@ const COMPARED: [(&str, &str, CompareResult, Option<usize>); 14] = [
 ];
 
 #[test]
-fn compare_and_find() -> Result<(), Fail> {
+fn compare_and_find(rt: HostRuntime) {
     for (text, tag, compared, found) in COMPARED {
         let bytes = ByteText::new(text.as_bytes());
         let byte_tag = ByteTag::new(tag.as_bytes());
         let span = text::whole(&bytes);
-        check_eq(bytes.compare(span, &byte_tag), compared)?;
-        check_eq(
+        assert_eq!(rt; bytes.compare(span, &byte_tag), compared);
+        assert_eq!(rt;
             text::starts_with(&bytes, span, &byte_tag),
-            compared == CompareResult::Ok,
-        )?;
-        check_eq(text::find(&bytes, span, &byte_tag), found)?;
+            compared == CompareResult::Ok
+        );
+        assert_eq!(rt; text::find(&bytes, span, &byte_tag), found);
         let chars = Utf8Text::new(text.as_bytes());
         let char_tag = Utf8Tag::new(tag.as_bytes());
         let span = text::whole(&chars);
-        check_eq(chars.compare(span, &char_tag), compared)?;
-        check_eq(
+        assert_eq!(rt; chars.compare(span, &char_tag), compared);
+        assert_eq!(rt;
             text::starts_with(&chars, span, &char_tag),
-            compared == CompareResult::Ok,
-        )?;
-        check_eq(text::find(&chars, span, &char_tag), found)?;
+            compared == CompareResult::Ok
+        );
+        assert_eq!(rt; text::find(&chars, span, &char_tag), found);
     }
-    Ok(())
 }
 
 // A text, a code, and the bytes before the first item that has it: in the byte text, and in the UTF-8 text.
@@ -84,18 +67,17 @@ const PLACES: [(&str, u32, usize, usize); 7] = [
 ];
 
 #[test]
-fn position() -> Result<(), Fail> {
+fn position(rt: HostRuntime) {
     for (text, code, byte, char) in PLACES {
         let bytes = ByteText::new(text.as_bytes());
         let span = text::whole(&bytes);
-        check_eq(bytes.position(span, &Is { code }), byte)?;
-        check_eq(bytes.position_of(span, code), byte)?;
+        assert_eq!(rt; bytes.position(span, &Is { code }), byte);
+        assert_eq!(rt; bytes.position_of(span, code), byte);
         let chars = Utf8Text::new(text.as_bytes());
         let span = text::whole(&chars);
-        check_eq(chars.position(span, &Is { code }), char)?;
-        check_eq(chars.position_of(span, code), char)?;
+        assert_eq!(rt; chars.position(span, &Is { code }), char);
+        assert_eq!(rt; chars.position_of(span, code), char);
     }
-    Ok(())
 }
 
 fn size(n: usize) -> Needed {
@@ -107,41 +89,41 @@ fn size(n: usize) -> Needed {
 
 // Bytes lack the difference; code points of unknown widths lack what nobody knows.
 #[test]
-fn slice_index() -> Result<(), Fail> {
+fn slice_index(rt: HostRuntime) {
     let bytes = ByteText::new("é€".as_bytes());
     let span = text::whole(&bytes);
-    check_eq(bytes.slice_index(span, 0), Ok(0))?;
-    check_eq(bytes.slice_index(span, 5), Ok(5))?;
-    check_eq(bytes.slice_index(span, 6), Err(size(1)))?;
+    assert_eq!(rt; bytes.slice_index(span, 0), Ok(0));
+    assert_eq!(rt; bytes.slice_index(span, 5), Ok(5));
+    assert_eq!(rt; bytes.slice_index(span, 6), Err(size(1)));
     let chars = Utf8Text::new("é€".as_bytes());
     let span = text::whole(&chars);
-    check_eq(chars.slice_index(span, 0), Ok(0))?;
-    check_eq(chars.slice_index(span, 1), Ok(2))?;
-    check_eq(chars.slice_index(span, 2), Ok(5))?;
-    check_eq(chars.slice_index(span, 3), Err(Needed::Unknown))
+    assert_eq!(rt; chars.slice_index(span, 0), Ok(0));
+    assert_eq!(rt; chars.slice_index(span, 1), Ok(2));
+    assert_eq!(rt; chars.slice_index(span, 2), Ok(5));
+    assert_eq!(rt; chars.slice_index(span, 3), Err(Needed::Unknown));
 }
 
 #[test]
-fn items_and_boundaries() -> Result<(), Fail> {
+fn items_and_boundaries(rt: HostRuntime) {
     let chars = Utf8Text::new(&[0xE2, 0x82, 0xAC]);
-    check_eq(chars.item(text::whole(&chars)), Some((0x20AC, 3)))?;
-    check_eq(text::count_items(&chars), 1)?;
-    check(
+    assert_eq!(rt; chars.item(text::whole(&chars)), Some((0x20AC, 3)));
+    assert_eq!(rt; text::count_items(&chars), 1);
+    assert!(rt;
         chars.is_boundary(0)
             && !chars.is_boundary(1)
             && !chars.is_boundary(2)
-            && chars.is_boundary(3),
-    )?;
-    check(!chars.is_boundary(4))?;
+            && chars.is_boundary(3)
+    );
+    assert!(rt; !chars.is_boundary(4));
     let chars = Utf8Text::new("🧵".as_bytes());
-    check_eq(chars.item(text::whole(&chars)), Some((0x1F9F5, 4)))?;
+    assert_eq!(rt; chars.item(text::whole(&chars)), Some((0x1F9F5, 4)));
     let bytes = ByteText::new(&[0xE2, 0x82, 0xAC]);
-    check_eq(bytes.item(text::whole(&bytes)), Some((0xE2, 1)))?;
-    check(bytes.is_boundary(1) && bytes.is_boundary(3) && !bytes.is_boundary(4))
+    assert_eq!(rt; bytes.item(text::whole(&bytes)), Some((0xE2, 1)));
+    assert!(rt; bytes.is_boundary(1) && bytes.is_boundary(3) && !bytes.is_boundary(4));
 }
 
 #[test]
-fn lines_are_the_pieces_between_line_ends() -> Result<(), Fail> {
+fn lines_are_the_pieces_between_line_ends(rt: HostRuntime) {
     for (text, lines) in [
         ("", 1usize),
         ("\n", 2),
@@ -150,15 +132,14 @@ fn lines_are_the_pieces_between_line_ends() -> Result<(), Fail> {
         ("\n\n\n", 4),
         ("é\r\n€", 2),
     ] {
-        check_eq(text::count_lines(&ByteText::new(text.as_bytes())), lines)?;
-        check_eq(text::count_lines(&Utf8Text::new(text.as_bytes())), lines)?;
+        assert_eq!(rt; text::count_lines(&ByteText::new(text.as_bytes())), lines);
+        assert_eq!(rt; text::count_lines(&Utf8Text::new(text.as_bytes())), lines);
     }
-    Ok(())
 }
 
 #[test]
-fn needed_is_never_a_size_of_0() -> Result<(), Fail> {
-    check_eq(Needed::new(0), Needed::Unknown)?;
-    check_eq(Needed::new(2), size(2))?;
-    check(Needed::new(1).is_known() && !Needed::new(0).is_known())
+fn needed_is_never_a_size_of_0(rt: HostRuntime) {
+    assert_eq!(rt; Needed::new(0), Needed::Unknown);
+    assert_eq!(rt; Needed::new(2), size(2));
+    assert!(rt; Needed::new(1).is_known() && !Needed::new(0).is_known());
 }

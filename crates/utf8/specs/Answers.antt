@@ -1,24 +1,18 @@
 -- When bytes are refused as a UTF-8 text or tag. Assumes nothing.
-use Prim.Native.Nat.{ℕ}
-use mathlib.Core.Bool.{cond}
-use mathlib.Core.List.{List}
-use lib.Dec.{eqb}
-use lib.ListN.{length}
-use Rattle·std.specs.declared.result.Result.{Result}
-use Rattle·std.specs.declared.result.Result.the-variants.{Ok, Err}
-use Rattle·text.specs.declared.Refusal.{Refusal}
-use Rattle·text.specs.declared.Refusal.the-variants.{Malformed}
-use Rattle·text.specs.Answers.{text-limit, tag-limit}
-use Rattle·text.specs.Cells.{total}
-use Rattle·utf8·specs.Octets.{scan}
+use Rattle.std.specs.Prelude.{ℕ, cond, List, length, Ok, Err, Result, ◌==◌}
+use Rattle.text.specs.declared.Refusal.{Refusal}
+use Rattle.text.specs.declared.Refusal.TheVariants.{Malformed}
+use Rattle.text.specs.Answers.{text_limit, tag_limit}
+use Rattle.text.specs.Cells.{total}
+use Rattle.utf8.specs.Octets.{scan}
 
 -- not well-formed, with the length of the longest well-formed prefix
-abbrev pub well-check : List ℕ → Result (Unit {0}) Refusal
-well-check bs = cond (eqb (total (scan bs)) (length bs)) (Ok tt) (Err (Malformed (total (scan bs))))
+abbrev pub well_check : List ℕ → Result (Unit {0}) Refusal
+well_check bs = cond (total (scan bs) == length bs) (Ok tt) (Err (Malformed (total (scan bs))))
 
 -- the limit comes first
-abbrev pub utf8-text-check : List ℕ → Result (Unit {0}) Refusal
-utf8-text-check bs = text-limit bs (well-check bs)
+abbrev pub utf8_text_check : List ℕ → Result (Unit {0}) Refusal
+utf8_text_check bs = text_limit bs (well_check bs)
 
-abbrev pub utf8-tag-check : List ℕ → Result (Unit {0}) Refusal
-utf8-tag-check bs = tag-limit bs (well-check bs)
+abbrev pub utf8_tag_check : List ℕ → Result (Unit {0}) Refusal
+utf8_tag_check bs = tag_limit bs (well_check bs)

@@ -1,14 +1,7 @@
 -- UTF-8 as RFC 3629 has it: a table of lead bytes, and the code points that a list of bytes begins with. Assumes nothing.
-use Prim.Native.Nat.{ℕ, zero, suc, _-_, _+_, _*_}
-use mathlib.Core.Path.{_≡_}
-use mathlib.Core.Bool.{Bool, true, false, cond, _&&_, _||_}
-use mathlib.Core.List.{List, [], _∷_}
-use lib.Dec.{ltb, leb}
-use lib.ListN.{length}
-use Rattle·std.specs.declared.option.Option.{Option}
-use Rattle·std.specs.declared.option.Option.the-variants.{Some, None}
-use Rattle·text.specs.Cells.{Cell, total}
-use Rattle·utf8·specs.declared.rows.Row.{Row}
+use Rattle.std.specs.Prelude.{◌≡◌, ℕ, zero, suc, ◌+◌, ◌-◌, ◌*◌, Bool, true, false, cond, ◌&&◌, ◌||◌, List, [], ◌∷◌, length, Some, None, Option, nat_le, nat_lt}
+use Rattle.text.specs.Cells.{Cell, total}
+use Rattle.utf8.specs.declared.rows.Row.{Row}
 
 abbrev row : ℕ → ℕ → ℕ → ℕ → ℕ → ℕ → Row
 row a b n c d e = record { low = a; high = b; tails = n; from = c; to = d; base = e }
@@ -29,12 +22,12 @@ rows =
     ∷ []
 
 abbrev pub inside : ℕ → ℕ → ℕ → Bool
-inside lo hi b = leb lo b && leb b hi
+inside lo hi b = nat_le lo b && nat_le b hi
 
 -- the row of a lead byte
-abbrev pub row-of : List Row → ℕ → Option Row
-row-of [] b = None
-row-of (r ∷ rs) b = cond (inside (r .low) (r .high) b) (Some r) (row-of rs b)
+abbrev pub row_of : List Row → ℕ → Option Row
+row_of [] b = None
+row_of (r ∷ rs) b = cond (inside r.low r.high b) (Some r) (row_of rs b)
 
 -- whether n bytes follow, the first of them from lo to hi
 abbrev pub follow : ℕ → ℕ → ℕ → List ℕ → Bool
@@ -50,32 +43,32 @@ glue (suc n) code (b ∷ bs) = glue n (code * 64 + (b - 0x80)) bs
 
 abbrev pub led : Option Row → ℕ → List ℕ → Option Cell
 led None b bs = None
-led (Some r) b bs = cond (follow (r .tails) (r .from) (r .to) bs) (Some (glue (r .tails) (b - r .base) bs, suc (r .tails))) None
+led (Some r) b bs = cond (follow r.tails r.from r.to bs) (Some (glue r.tails (b - r.base) bs, suc r.tails)) None
 
 -- the code point that the bytes begin with, with its width
 abbrev pub char : List ℕ → Option Cell
 char [] = None
-char (b ∷ bs) = led (row-of rows b) b bs
+char (b ∷ bs) = led (row_of rows b) b bs
 
 -- the width of a code point, 0 where there is none
-abbrev pub width-of : Option Cell → ℕ
-width-of None = 0
-width-of (Some c) = c .1
+abbrev pub width_of : Option Cell → ℕ
+width_of None = 0
+width_of (Some c) = c.1
 
 abbrev pub push : Option Cell → (Cell → List Cell) → List Cell
 push None k = []
 push (Some c) k = c ∷ k c
 
 -- the code points of the longest well-formed prefix, past n bytes
-abbrev pub scan-past : ℕ → List ℕ → List Cell
-scan-past zero [] = []
-scan-past zero (b ∷ bs) = push (char (b ∷ bs)) (λ c. scan-past (c .1 - 1) bs)
-scan-past (suc n) [] = []
-scan-past (suc n) (b ∷ bs) = scan-past n bs
+abbrev pub scan_past : ℕ → List ℕ → List Cell
+scan_past zero [] = []
+scan_past zero (b ∷ bs) = push (char (b ∷ bs)) (λ c. scan_past (c.1 - 1) bs)
+scan_past (suc n) [] = []
+scan_past (suc n) (b ∷ bs) = scan_past n bs
 
 -- the code points of the longest well-formed prefix
 abbrev pub scan : List ℕ → List Cell
-scan bs = scan-past 0 bs
+scan bs = scan_past 0 bs
 
 -- all of the bytes are code points
 abbrev pub WellFormed : List ℕ → Type 0
@@ -83,8 +76,8 @@ WellFormed bs = total (scan bs) ≡ length bs
 
 -- a byte that starts a code point
 abbrev pub leads : ℕ → Bool
-leads b = ltb b 0x80 || leb 0xC0 b
+leads b = nat_lt b 0x80 || nat_le 0xC0 b
 
 -- how many bytes follow a lead byte
-abbrev pub tails-of : ℕ → ℕ
-tails-of b = cond (ltb b 0x80) 0 (cond (ltb b 0xE0) 1 (cond (ltb b 0xF0) 2 3))
+abbrev pub tails_of : ℕ → ℕ
+tails_of b = cond (nat_lt b 0x80) 0 (cond (nat_lt b 0xE0) 1 (cond (nat_lt b 0xF0) 2 3))

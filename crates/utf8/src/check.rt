@@ -1,12 +1,9 @@
 // How far bytes are well-formed UTF-8.
-ghost use Prim.Native.Nat.{ℕ, _+_, _≤_, _<_};
-ghost use denote.Ref.{now};
-ghost use mathlib.Core.Path.{_≡_};
-ghost use mathlib.Core.Bool.{false};
-ghost use lib.ListN.{length, getD, drop as rest};
-ghost use Rattle·std.specs.Options.{mapped};
-ghost use Rattle·text.specs.Cells.{total};
-ghost use Rattle·utf8·specs.Octets.{rows as table, row-of, follow, char as char-of, width-of, scan, inside};
+ghost use Rattle.std.specs.Prelude.{◌≡◌, ℕ, ◌+◌, ◌<◌, ◌≤◌, false, length, drop as rest, slice_index};
+ghost use Rattle.std.specs.Option.{option_map};
+ghost use Rattle.text.specs.Cells.{total};
+ghost use Rattle.utf8.specs.Octets.{rows as table, row_of, follow, char as Char-of, width_of, scan, inside};
+
 use super::rows::Row;
 
 // The lead bytes of RFC 3629, section 4, in rising order.
@@ -86,14 +83,14 @@ static ROWS: [Row; 9] = [
 ];
 
 fn is_inside(b: u8, low: u8, high: u8) -> bool
-    ensures { λ r. ⌜ r ≡ inside low high b ⌝ }
+    ensures { result ≡ inside low high b }
 {
     low <= b && b <= high
 }
 
 // The row of a lead byte.
 pub fn row_for(lead: u8) -> Option<&'static Row>
-    ensures { λ r. ⌜ mapped now r ≡ row-of table lead ⌝ }
+    ensures { option_map (λ x. x.now) result ≡ row_of table lead }
 {
     for row in &ROWS {
         if is_inside(lead, row.low, row.high) {
@@ -105,8 +102,8 @@ pub fn row_for(lead: u8) -> Option<&'static Row>
 
 // Whether the bytes from `at` on are those that the row asks for after its lead byte.
 fn follows(bytes: &[u8], at: usize, row: &Row) -> bool
-    requires { ⌜ at ≤ length (now bytes) ⌝ ∗ ⌜ now row .tails ≤ 3 ⌝ }
-    ensures { λ r. ⌜ r ≡ follow (now (row .entry) .tails) (now (row .entry) .from) (now (row .entry) .to) (rest at (now (bytes .entry))) ⌝ }
+    requires { (at ≤ length bytes.now) × (row.now.tails ≤ 3) }
+    ensures { result ≡ follow row.now.tails row.now.from row.now.to (rest at bytes.now) }
 {
     let tails = row.tails as usize;
     if bytes.len() - at < tails {
@@ -129,8 +126,8 @@ fn follows(bytes: &[u8], at: usize, row: &Row) -> bool
 
 // The width of the code point that starts at `at`: 0 where none does.
 fn width_at(bytes: &[u8], at: usize) -> usize
-    requires { ⌜ at < length (now bytes) ⌝ }
-    ensures { λ r. ⌜ r ≡ width-of (char-of (rest at (now (bytes .entry)))) ⌝ }
+    requires { at < length bytes.now }
+    ensures { result ≡ width_of (Char-of (rest at bytes.now)) }
 {
     match row_for(bytes[at]) {
         Some(row) => {
@@ -150,8 +147,8 @@ const WINDOW: usize = 64;
 // Whether a byte of the window from `at` on is no ASCII. With no way out of the loop it is compiled to a few vector
 // operations.
 fn window_is_wide(bytes: &[u8], at: usize) -> bool
-    requires { ⌜ at + 64 ≤ length (now bytes) ⌝ }
-    ensures { λ r. ⌜ (r ≡ false → (k : ℕ) → at ≤ k → k < at + 64 → getD (now (bytes .entry)) k 0 < 0x80) ⌝ }
+    requires { at + 64 ≤ length bytes.now }
+    ensures { result ≡ false → (k : ℕ) → at ≤ k → k < at + 64 → slice_index bytes.now k < 0x80 }
 {
     let mut wide = false;
     for i in at..at + WINDOW {
@@ -162,9 +159,9 @@ fn window_is_wide(bytes: &[u8], at: usize) -> bool
 
 // Past the windows of ASCII from `from` on.
 fn skip_windows(bytes: &[u8], from: usize) -> usize
-    requires { ⌜ from ≤ length (now bytes) ⌝ }
-    ensures within { λ r. ⌜ from ≤ r ⌝ ∗ ⌜ r ≤ length (now (bytes .entry)) ⌝ }
-    ensures skipped { λ r. ⌜ from + total (scan (rest from (now (bytes .entry)))) ≡ r + total (scan (rest r (now (bytes .entry)))) ⌝ }
+    requires { from ≤ length bytes.now }
+    ensures within { (from ≤ result) × (result ≤ length bytes.now) }
+    ensures skipped { from + total (scan (rest from bytes.now)) ≡ result + total (scan (rest result bytes.now)) }
 {
     let mut at = from;
     while bytes.len() - at >= WINDOW && !window_is_wide(bytes, at) {
@@ -175,9 +172,9 @@ fn skip_windows(bytes: &[u8], from: usize) -> usize
 
 // Past the run of ASCII from `from` on.
 fn skip_ascii(bytes: &[u8], from: usize) -> usize
-    requires { ⌜ from < length (now bytes) ⌝ ∗ ⌜ getD (now bytes) from 0 < 0x80 ⌝ }
-    ensures within { λ r. ⌜ from < r ⌝ ∗ ⌜ r ≤ length (now (bytes .entry)) ⌝ }
-    ensures skipped { λ r. ⌜ from + total (scan (rest from (now (bytes .entry)))) ≡ r + total (scan (rest r (now (bytes .entry)))) ⌝ }
+    requires { (from < length bytes.now) × (slice_index bytes.now from < 0x80) }
+    ensures within { (from < result) × (result ≤ length bytes.now) }
+    ensures skipped { from + total (scan (rest from bytes.now)) ≡ result + total (scan (rest result bytes.now)) }
 {
     let mut at = skip_windows(bytes, from);
     while at < bytes.len() && bytes[at] < 0x80 {
@@ -188,7 +185,7 @@ fn skip_ascii(bytes: &[u8], from: usize) -> usize
 
 // How many bytes the longest well-formed prefix has.
 pub fn valid_up_to(bytes: &[u8]) -> usize
-    ensures { λ r. ⌜ r ≡ total (scan (now (bytes .entry))) ⌝ }
+    ensures { result ≡ total (scan bytes.now) }
 {
     let mut at = 0;
     while at < bytes.len() {

@@ -7,8 +7,4 @@ pub mod rows;
 pub mod texts;
 
 pub use check::valid_up_to;
-pub use texts::Utf8Tag;
-pub use texts::Utf8TagNeedle;
-pub use texts::Utf8Text;
-pub use texts::Utf8TextText;
-pub use texts::compare_chars;
+pub use texts::{Utf8Tag, Utf8Text, compare_chars};

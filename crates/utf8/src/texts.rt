@@ -1,53 +1,39 @@
 // Texts and tags whose items are code points.
-ghost use Prim.Native.Nat.{suc, _+_, _≤_};
-ghost use denote.Ref.{now};
-ghost use mathlib.Core.Path.{_≡_};
-ghost use mathlib.Core.Bool.{true};
-ghost use lib.ListN.{length, getD, drop as rest};
-ghost use Rattle·std.specs.Options.{isSome};
-ghost use Rattle·std.specs.declared.option.Option.the-variants.{Some};
-ghost use Rattle·text.specs.Answers.{kept};
-ghost use Rattle·text.specs.Cells.{singles};
-ghost use Rattle·text.specs.Need.{unknown};
-ghost use Rattle·text.specs.Search.{matched};
-ghost use Rattle·utf8·specs.Octets.{char as char-of, scan, WellFormed, tails-of};
-ghost use Rattle·utf8·specs.Scans.{scan-lawful, scan-short};
-ghost use Rattle·utf8·specs.Answers.{well-check, utf8-text-check, utf8-tag-check};
-ghost use Rattle·utf8·specs.Rfc.{Octets, codes, TextAnswer, TagAnswer};
+ghost use Rattle.std.specs.Prelude.{◌≡◌, suc, ◌+◌, ◌≤◌, true, length, drop as rest, is_some, Some, slice_index};
+ghost use Rattle.text.specs.Answers.{kept};
+ghost use Rattle.text.specs.Cells.{singles};
+ghost use Rattle.text.specs.Need.{unknown};
+ghost use Rattle.text.specs.Search.{matched};
+ghost use Rattle.utf8.specs.Octets.{char as Char-of, scan, WellFormed, tails_of};
+ghost use Rattle.utf8.specs.Scans.{scan_lawful, scan_short};
+ghost use Rattle.utf8.specs.Answers.{well_check, utf8_text_check, utf8_tag_check};
+ghost use Rattle.utf8.specs.Rfc.{Octets, codes, TextAnswer, TagAnswer};
+
 use super::check::valid_up_to;
-use text::CompareResult;
-use text::Is;
-use text::IsPredicate;
-use text::Needed;
-use text::Needle;
-use text::Predicate;
-use text::Refusal;
-use text::Span;
-use text::TAG_LIMIT;
-use text::TEXT_LIMIT;
-use text::Text;
-use text::bytes::compare_bytes;
-use text::bytes::find_byte;
+use text::bytes::{compare_bytes, find_byte};
+use text::{
+    CompareResult, Is, Needed, Needle, Predicate, Refusal, Span, TAG_LIMIT, TEXT_LIMIT, Text,
+};
 
 // A tag of code points.
 #[derive(Clone, Copy)]
 pub struct Utf8Tag<'a> {
     bytes: &'a [u8],
-    ghost few: { length (now bytes) ≤ 32 },
-    ghost well: { WellFormed (now bytes) },
+    ghost few: { length bytes.now ≤ 32 },
+    ghost well: { WellFormed bytes.now },
 }
 
 // A text of code points. Its bytes are well-formed, wherever a value of it is.
 #[derive(Clone, Copy)]
 pub struct Utf8Text<'a> {
     bytes: &'a [u8],
-    ghost few: { length (now bytes) ≤ 1048576 },
-    ghost well: { WellFormed (now bytes) },
+    ghost few: { length bytes.now ≤ 1048576 },
+    ghost well: { WellFormed bytes.now },
 }
 
 // Whether all of the bytes are code points.
 fn check_well_formed(bytes: &[u8]) -> Result<(), Refusal>
-    ensures { λ r. ⌜ r ≡ well-check (now (bytes .entry)) ⌝ }
+    ensures { result ≡ well_check bytes.now }
 {
     let valid = valid_up_to(bytes);
     if valid == bytes.len() {
@@ -60,8 +46,8 @@ fn check_well_formed(bytes: &[u8]) -> Result<(), Refusal>
 impl<'a> Utf8Tag<'a> {
     // Whether the bytes are a tag: accepted exactly where they are UTF-8 by RFC 3629 and within the limit.
     pub fn check(bytes: &[u8]) -> Result<(), Refusal>
-        ensures value { λ r. ⌜ r ≡ utf8-tag-check (now (bytes .entry)) ⌝ }
-        ensures exact { λ r. ⌜ TagAnswer (now (bytes .entry)) r ⌝ }
+        ensures value { result ≡ utf8_tag_check bytes.now }
+        ensures exact { TagAnswer bytes.now result }
     {
         if bytes.len() > TAG_LIMIT {
             Err(Refusal::TagTooLong(bytes.len()))
@@ -72,7 +58,7 @@ impl<'a> Utf8Tag<'a> {
 
     // The bytes as a tag, or an empty tag where they are refused.
     pub fn new(bytes: &'a [u8]) -> Utf8Tag<'a>
-        ensures { λ r. ⌜ now (r .bytes) ≡ kept (utf8-tag-check (now (bytes .entry))) (now (bytes .entry)) ⌝ }
+        ensures { result.bytes.now ≡ kept (utf8_tag_check bytes.now) bytes.now }
     {
         match Utf8Tag::check(bytes) {
             Ok(_) => Utf8Tag { bytes },
@@ -86,8 +72,8 @@ impl<'a> Utf8Tag<'a> {
 impl<'a> Utf8Text<'a> {
     // Whether the bytes are a text: accepted exactly where they are UTF-8 by RFC 3629 and within the limit.
     pub fn check(bytes: &[u8]) -> Result<(), Refusal>
-        ensures value { λ r. ⌜ r ≡ utf8-text-check (now (bytes .entry)) ⌝ }
-        ensures exact { λ r. ⌜ TextAnswer (now (bytes .entry)) r ⌝ }
+        ensures value { result ≡ utf8_text_check bytes.now }
+        ensures exact { TextAnswer bytes.now result }
     {
         if bytes.len() > TEXT_LIMIT {
             Err(Refusal::TextTooLong(bytes.len()))
@@ -99,8 +85,8 @@ impl<'a> Utf8Text<'a> {
     // The bytes as a text, or an empty text where they are refused. Its items are the code points that RFC 3629 has for
     // its bytes.
     pub fn new(bytes: &'a [u8]) -> Utf8Text<'a>
-        ensures bytes { λ r. ⌜ now (r .bytes) ≡ kept (utf8-text-check (now (bytes .entry))) (now (bytes .entry)) ⌝ }
-        ensures items { λ r. ⌜ Octets (now (r .bytes)) (codes (scan (now (r .bytes)))) ⌝ }
+        ensures bytes { result.bytes.now ≡ kept (utf8_text_check bytes.now) bytes.now }
+        ensures items { Octets result.bytes.now (codes (scan result.bytes.now)) }
     {
         match Utf8Text::check(bytes) {
             Ok(_) => Utf8Text { bytes },
@@ -113,7 +99,7 @@ impl<'a> Utf8Text<'a> {
 
 // How many bytes the code point has that starts with the byte `lead`.
 fn char_len(lead: u8) -> usize
-    ensures { λ r. ⌜ r ≡ suc (tails-of lead) ⌝ }
+    ensures { result ≡ suc (tails_of lead) }
 {
     if lead < 0x80 {
         1
@@ -129,9 +115,9 @@ fn char_len(lead: u8) -> usize
 // The code point that starts at `at`, where one does, and where the next starts: no byte is held against its range again.
 // Each width has a way of its own through the function, which a processor foretells better than a computed width.
 fn char_at(bytes: &[u8], at: usize) -> (u32, usize)
-    requires { ⌜ isSome (char-of (rest at (now bytes))) ≡ true ⌝ }
-    ensures point { λ r. ⌜ Some (r .0, suc (tails-of (getD (now (bytes .entry)) at 0))) ≡ char-of (rest at (now (bytes .entry))) ⌝ }
-    ensures next { λ r. ⌜ r .1 ≡ at + suc (tails-of (getD (now (bytes .entry)) at 0)) ⌝ }
+    requires { is_some (Char-of (rest at bytes.now)) ≡ true }
+    ensures point { Some (result.0, suc (tails_of (slice_index bytes.now at))) ≡ Char-of (rest at bytes.now) }
+    ensures next { result.1 ≡ at + suc (tails_of (slice_index bytes.now at)) }
 {
     let lead = bytes[at];
     if lead < 0x80 {
@@ -154,16 +140,16 @@ fn char_at(bytes: &[u8], at: usize) -> (u32, usize)
 
 // How bytes compare with a tag's bytes. Where both are well-formed, comparing bytes is comparing code points.
 pub fn compare_chars(text: &[u8], tag: &[u8]) -> CompareResult
-    ensures bytes { λ r. ⌜ r ≡ matched (singles (now (text .entry))) (singles (now (tag .entry))) ⌝ }
-    ensures items { λ r. ⌜ (WellFormed (now (text .entry)) → WellFormed (now (tag .entry)) → r ≡ matched (scan (now (text .entry))) (scan (now (tag .entry)))) ⌝ }
+    ensures bytes { result ≡ matched (singles text.now) (singles tag.now) }
+    ensures items { WellFormed text.now → WellFormed tag.now → result ≡ matched (scan text.now) (scan tag.now) }
 {
     compare_bytes(text, tag)
 }
 
-pub impl<'a> Needle for Utf8Tag<'a> as Utf8TagNeedle {
-    ghost spelt = { λ t. scan (now (t .bytes)) };
+impl<'a> Needle for Utf8Tag<'a> {
+    ghost spelt = { λ t. scan t.bytes.now };
 
-    ghost short = { λ t. scan-short (now (t .bytes)) (t .well) (t .few) };
+    ghost short = { λ t. scan_short t.bytes.now t.well t.few };
 
     fn len(&self) -> usize {
         self.bytes.len()
@@ -179,14 +165,14 @@ pub impl<'a> Needle for Utf8Tag<'a> as Utf8TagNeedle {
     }
 }
 
-pub impl<'a> Text for Utf8Text<'a> as Utf8TextText {
+impl<'a> Text for Utf8Text<'a> {
     type Tag = Utf8Tag<'a>;
 
-    ghost cells = { λ t. scan (now (t .bytes)) };
+    ghost cells = { λ t. scan t.bytes.now };
 
-    ghost raw = { λ t. now (t .bytes) };
+    ghost raw = { λ t. t.bytes.now };
 
-    ghost lawful = { λ t. scan-lawful (now (t .bytes)) (t .well) (t .few) };
+    ghost lawful = { λ t. scan_lawful t.bytes.now t.well t.few };
 
     ghost lack = { unknown };
 

@@ -1,9 +1,9 @@
-use mathlib.Core.Path.{refl}
-use Rattle·sink·proofs.Items.{past, item-there}
-use Rattle·sink·proofs.sheet.picked.Needs as need
+use Rattle.std.proofs.Common.{refl}
+use Rattle.sink.proofs.Items.{past, item_there}
+use Rattle.sink.proofs.sheet.picked.Goals as goal
 
-pub returns-then-at-items : need.returns-then-at-items
-returns-then-at-items g c = past _ _ _ refl (c .if-at-items .taken)
+pub returns-then-at-items : goal.returns-then-at-items
+returns-then-at-items g c = past _ _ _ refl c.if-at-items.true
 
-pub returns : need.returns
-returns g c = item-there _ _ _ (c .if-at-items .left) (c .index-items-at .is)
+pub returns : goal.returns
+returns g c = item_there _ _ _ c.if-at-items.false c.index-items-at.is

@@ -1,8 +1,8 @@
-use native.Mathlib.Omega.{arith}
-use Rattle·utf8·proofs.Steps.{ascii-on}
-use Rattle·utf8·proofs.check.skip_ascii.Needs as need
+use Rattle.std.proofs.Common.{arith}
+use Rattle.utf8.proofs.Steps.{ascii_on}
+use Rattle.utf8.proofs.check.skip_ascii.Goals as goal
 
-pub loop-at-again : need.loop-at-again
-loop-at-again c =
-    let on = ascii-on (c .args .bytes .now) (c .loop-at .at) (c .loop-at-test .taken) (c .if-bytes-at-lt128 .taken) in
-    (omega arith, omega arith, omega (arith, on, c .loop-at .inv .2))
+pub loop-at-preserved : goal.loop-at-preserved
+loop-at-preserved c =
+    let on = ascii_on c.args.bytes.now c.loop-at.at c.loop-at-test.true c.if-bytes-at-lt128.true in
+    (omega arith, omega arith, omega (arith, on, c.loop-at.invariant.2))

@@ -1,23 +1,20 @@
-use Prim.Native.Nat.{_+_, suc}
-use mathlib.Core.Path.{_≡_, sym, ap, _∙_}
-use native.Mathlib.Omega.{arith}
-use lib.ListN.{getD}
-use Rattle·utf8·specs.Octets.{width-of}
-use Rattle·utf8·proofs.Table.{row-sound}
-use Rattle·utf8·proofs.Steps.{char-no-row, char-cut-off, char-there}
-use Rattle·utf8·proofs.check.width_at.Needs as need
+use Rattle.std.proofs.Common.{◌≡◌, suc, ◌+◌, get_or, sym, ap, ◌∙◌, arith}
+use Rattle.utf8.specs.Octets.{width_of}
+use Rattle.utf8.proofs.Table.{row_sound}
+use Rattle.utf8.proofs.Steps.{char_no_row, char_cut_off, char_there}
+use Rattle.utf8.proofs.check.width_at.Goals as goal
 
-pub follows-requires : need.follows-requires
-follows-requires c κs = (omega arith, row-sound (getD (c .args .bytes .now) (c .args .at) 0) (c .in-Some .row .now) (sym (c .in-Some .ensures tt)) .few)
+pub follows-requires : goal.follows-requires
+follows-requires c = (omega arith, (row_sound (get_or c.args.bytes.now c.args.at 0) c.in-Some.row.now (sym c.in-Some.ensures)).few)
 
-pub returns-then-follows : need.returns-then-follows
+pub returns-then-follows : goal.returns-then-follows
 returns-then-follows c =
-    let one : c .in-Some .row .now .tails + 1 ≡ suc (c .in-Some .row .now .tails) = omega arith in
-    one ∙ sym (ap width-of (char-there (c .args .bytes .now) (c .args .at) (c .pre) (c .in-Some .row .now) (c .in-Some .ensures tt) (c .if-follows .ensures tt)))
+    let one : c.in-Some.row.now.tails + 1 ≡ suc c.in-Some.row.now.tails = omega arith in
+    one ∙ sym (ap width_of (char_there c.args.bytes.now c.args.at c.requires c.in-Some.row.now c.in-Some.ensures c.if-follows.ensures))
 
-pub returns-else-follows : need.returns-else-follows
+pub returns-else-follows : goal.returns-else-follows
 returns-else-follows c =
-    sym (ap width-of (char-cut-off (c .args .bytes .now) (c .args .at) (c .pre) (c .in-Some .row .now) (c .in-Some .ensures tt) (c .if-follows .ensures tt)))
+    sym (ap width_of (char_cut_off c.args.bytes.now c.args.at c.requires c.in-Some.row.now c.in-Some.ensures c.if-follows.ensures))
 
-pub returns-in-None : need.returns-in-None
-returns-in-None c = sym (ap width-of (char-no-row (c .args .bytes .now) (c .args .at) (c .pre) (c .in-None .ensures tt)))
+pub returns-in-None : goal.returns-in-None
+returns-in-None c = sym (ap width_of (char_no_row c.args.bytes.now c.args.at c.requires c.in-None.ensures))

@@ -1,97 +1,94 @@
-use Prim.Native.Nat.{_+_}
-use native.Mathlib.Omega.{arith}
-use lib.ListN.{getD}
-use mathlib.Core.Logic.{⊎-elim}
-use Rattle·utf8·proofs.Decode.{starts-at, some-tails, two-tails, tails-0, tails-1, tails-2, tails-3, code-at-1, code-at-2, code-at-3, code-at-4}
-use Rattle·utf8·proofs.texts.char_at.Needs as need
+use Rattle.std.proofs.Common.{◌+◌, get_or, ⊎_elim, arith}
+use Rattle.utf8.proofs.Decode.{starts_at, some_tails, two_tails, tails_0, tails_1, tails_2, tails_3, code_at_1, code_at_2, code_at_3, code_at_4}
+use Rattle.utf8.proofs.texts.char_at.Goals as goal
 
-pub index-bytes-at : need.index-bytes-at
-index-bytes-at c = starts-at (c .args .bytes .now) (c .args .at) (c .pre) .inner
+pub bounds-bytes-at : goal.bounds-bytes-at
+bounds-bytes-at c = (starts_at c.args.bytes.now c.args.at c.requires).inner
 
-pub returns-then-lead-lt128 : need.returns-then-lead-lt128
+pub returns-then-lead-lt128 : goal.returns-then-lead-lt128
 returns-then-lead-lt128 c =
-    let bs = c .args .bytes .now in
-    let n = tails-0 (getD bs (c .args .at) 0) (c .if-lead-lt128 .taken) in
-    record { point = code-at-1 bs (c .args .at) (starts-at bs (c .args .at) (c .pre)) n; next = omega (arith, n) }
+    let bs = c.args.bytes.now in
+    let n = tails_0 (get_or bs c.args.at 0) c.if-lead-lt128.true in
+    record { point = code_at_1 bs c.args.at (starts_at bs c.args.at c.requires) n; next = omega (arith, n) }
 
-pub add-second : need.add-second
-add-second c = let i = starts-at (c .args .bytes .now) (c .args .at) (c .pre) .inner in omega arith
+pub overflow-add-second : goal.overflow-add-second
+overflow-add-second c = let i = (starts_at c.args.bytes.now c.args.at c.requires).inner in omega arith
 
-pub index-bytes-at-2 : need.index-bytes-at-2
-index-bytes-at-2 c =
-    let f = starts-at (c .args .bytes .now) (c .args .at) (c .pre) .fits in
-    let n = some-tails (getD (c .args .bytes .now) (c .args .at) 0) (c .if-lead-lt128 .left) in
+pub bounds-bytes-at-2 : goal.bounds-bytes-at-2
+bounds-bytes-at-2 c =
+    let f = (starts_at c.args.bytes.now c.args.at c.requires).fits in
+    let n = some_tails (get_or c.args.bytes.now c.args.at 0) c.if-lead-lt128.false in
     omega arith
 
-pub sub-second : need.sub-second
-sub-second c =
-    let n = some-tails (getD (c .args .bytes .now) (c .args .at) 0) (c .if-lead-lt128 .left) in
-    starts-at (c .args .bytes .now) (c .args .at) (c .pre) .tails (c .args .at + 1) (omega arith) (omega arith)
+pub overflow-sub-second : goal.overflow-sub-second
+overflow-sub-second c =
+    let n = some_tails (get_or c.args.bytes.now c.args.at 0) c.if-lead-lt128.false in
+    (starts_at c.args.bytes.now c.args.at c.requires).tails (c.args.at + 1) (omega arith) (omega arith)
 
-pub sub-result : need.sub-result
-sub-result c = ⊎-elim (λ h. absurd (omega (arith, h, c .if-lead-lt128 .left))) (λ h. h) (starts-at (c .args .bytes .now) (c .args .at) (c .pre) .lead)
+pub overflow-sub-result : goal.overflow-sub-result
+overflow-sub-result c = ⊎_elim (λ h. absurd (omega (arith, h, c.if-lead-lt128.false))) (λ h. h) (starts_at c.args.bytes.now c.args.at c.requires).lead
 
-pub returns-then-lead-lt224 : need.returns-then-lead-lt224
+pub returns-then-lead-lt224 : goal.returns-then-lead-lt224
 returns-then-lead-lt224 c =
-    let bs = c .args .bytes .now in
-    let n = tails-1 (getD bs (c .args .at) 0) (c .if-lead-lt128 .left) (c .if-lead-lt224 .taken) in
-    record { point = code-at-2 bs (c .args .at) (starts-at bs (c .args .at) (c .pre)) n; next = omega (arith, n) }
+    let bs = c.args.bytes.now in
+    let n = tails_1 (get_or bs c.args.at 0) c.if-lead-lt128.false c.if-lead-lt224.true in
+    record { point = code_at_2 bs c.args.at (starts_at bs c.args.at c.requires) n; next = omega (arith, n) }
 
-pub add-third : need.add-third
-add-third c = let i = starts-at (c .args .bytes .now) (c .args .at) (c .pre) .inner in omega arith
+pub overflow-add-third : goal.overflow-add-third
+overflow-add-third c = let i = (starts_at c.args.bytes.now c.args.at c.requires).inner in omega arith
 
-pub index-bytes-at-3 : need.index-bytes-at-3
-index-bytes-at-3 c =
-    let f = starts-at (c .args .bytes .now) (c .args .at) (c .pre) .fits in
-    let n = two-tails (getD (c .args .bytes .now) (c .args .at) 0) (c .if-lead-lt224 .left) in
+pub bounds-bytes-at-3 : goal.bounds-bytes-at-3
+bounds-bytes-at-3 c =
+    let f = (starts_at c.args.bytes.now c.args.at c.requires).fits in
+    let n = two_tails (get_or c.args.bytes.now c.args.at 0) c.if-lead-lt224.false in
     omega arith
 
-pub sub-third : need.sub-third
-sub-third c =
-    let n = two-tails (getD (c .args .bytes .now) (c .args .at) 0) (c .if-lead-lt224 .left) in
-    starts-at (c .args .bytes .now) (c .args .at) (c .pre) .tails (c .args .at + 2) (omega arith) (omega arith)
+pub overflow-sub-third : goal.overflow-sub-third
+overflow-sub-third c =
+    let n = two_tails (get_or c.args.bytes.now c.args.at 0) c.if-lead-lt224.false in
+    (starts_at c.args.bytes.now c.args.at c.requires).tails (c.args.at + 2) (omega arith) (omega arith)
 
-pub returns-then-lead-lt240 : need.returns-then-lead-lt240
+pub returns-then-lead-lt240 : goal.returns-then-lead-lt240
 returns-then-lead-lt240 c =
-    let bs = c .args .bytes .now in
-    let n = tails-2 (getD bs (c .args .at) 0) (c .if-lead-lt224 .left) (c .if-lead-lt240 .taken) in
-    record { point = code-at-3 bs (c .args .at) (starts-at bs (c .args .at) (c .pre)) n; next = omega (arith, n) }
+    let bs = c.args.bytes.now in
+    let n = tails_2 (get_or bs c.args.at 0) c.if-lead-lt224.false c.if-lead-lt240.true in
+    record { point = code_at_3 bs c.args.at (starts_at bs c.args.at c.requires) n; next = omega (arith, n) }
 
-pub add-fourth : need.add-fourth
-add-fourth c = let i = starts-at (c .args .bytes .now) (c .args .at) (c .pre) .inner in omega arith
+pub overflow-add-fourth : goal.overflow-add-fourth
+overflow-add-fourth c = let i = (starts_at c.args.bytes.now c.args.at c.requires).inner in omega arith
 
-pub index-bytes-at-4 : need.index-bytes-at-4
-index-bytes-at-4 c =
-    let f = starts-at (c .args .bytes .now) (c .args .at) (c .pre) .fits in
-    let n = tails-3 (getD (c .args .bytes .now) (c .args .at) 0) (c .if-lead-lt240 .left) in
+pub bounds-bytes-at-4 : goal.bounds-bytes-at-4
+bounds-bytes-at-4 c =
+    let f = (starts_at c.args.bytes.now c.args.at c.requires).fits in
+    let n = tails_3 (get_or c.args.bytes.now c.args.at 0) c.if-lead-lt240.false in
     omega arith
 
-pub sub-fourth : need.sub-fourth
-sub-fourth c =
-    let n = tails-3 (getD (c .args .bytes .now) (c .args .at) 0) (c .if-lead-lt240 .left) in
-    starts-at (c .args .bytes .now) (c .args .at) (c .pre) .tails (c .args .at + 3) (omega arith) (omega arith)
+pub overflow-sub-fourth : goal.overflow-sub-fourth
+overflow-sub-fourth c =
+    let n = tails_3 (get_or c.args.bytes.now c.args.at 0) c.if-lead-lt240.false in
+    (starts_at c.args.bytes.now c.args.at c.requires).tails (c.args.at + 3) (omega arith) (omega arith)
 
-pub returns : need.returns
+pub returns : goal.returns
 returns c =
-    let bs = c .args .bytes .now in
-    let n = tails-3 (getD bs (c .args .at) 0) (c .if-lead-lt240 .left) in
-    record { point = code-at-4 bs (c .args .at) (starts-at bs (c .args .at) (c .pre)) n; next = omega (arith, n) }
+    let bs = c.args.bytes.now in
+    let n = tails_3 (get_or bs c.args.at 0) c.if-lead-lt240.false in
+    record { point = code_at_4 bs c.args.at (starts_at bs c.args.at c.requires) n; next = omega (arith, n) }
 
 -- the sums lie below the bytes' length, which is a number of the machine
-pub add-result : need.add-result
-add-result c = let i = starts-at (c .args .bytes .now) (c .args .at) (c .pre) .inner in omega arith
+pub overflow-add-result : goal.overflow-add-result
+overflow-add-result c = let i = (starts_at c.args.bytes.now c.args.at c.requires).inner in omega arith
 
-pub add-result-then-lead-lt224-2 : need.add-result-then-lead-lt224-2
-add-result-then-lead-lt224-2 c =
-    let f = starts-at (c .args .bytes .now) (c .args .at) (c .pre) .fits in
-    omega (arith, f, tails-1 (getD (c .args .bytes .now) (c .args .at) 0) (c .if-lead-lt128 .left) (c .if-lead-lt224 .taken))
+pub overflow-add-result-then-lead-lt224-2 : goal.overflow-add-result-then-lead-lt224-2
+overflow-add-result-then-lead-lt224-2 c =
+    let f = (starts_at c.args.bytes.now c.args.at c.requires).fits in
+    omega (arith, f, tails_1 (get_or c.args.bytes.now c.args.at 0) c.if-lead-lt128.false c.if-lead-lt224.true)
 
-pub add-result-then-lead-lt240-3 : need.add-result-then-lead-lt240-3
-add-result-then-lead-lt240-3 c =
-    let f = starts-at (c .args .bytes .now) (c .args .at) (c .pre) .fits in
-    omega (arith, f, tails-2 (getD (c .args .bytes .now) (c .args .at) 0) (c .if-lead-lt224 .left) (c .if-lead-lt240 .taken))
+pub overflow-add-result-then-lead-lt240-3 : goal.overflow-add-result-then-lead-lt240-3
+overflow-add-result-then-lead-lt240-3 c =
+    let f = (starts_at c.args.bytes.now c.args.at c.requires).fits in
+    omega (arith, f, tails_2 (get_or c.args.bytes.now c.args.at 0) c.if-lead-lt224.false c.if-lead-lt240.true)
 
-pub add-result-5 : need.add-result-5
-add-result-5 c =
-    let f = starts-at (c .args .bytes .now) (c .args .at) (c .pre) .fits in
-    omega (arith, f, tails-3 (getD (c .args .bytes .now) (c .args .at) 0) (c .if-lead-lt240 .left))
+pub overflow-add-result-5 : goal.overflow-add-result-5
+overflow-add-result-5 c =
+    let f = (starts_at c.args.bytes.now c.args.at c.requires).fits in
+    omega (arith, f, tails_3 (get_or c.args.bytes.now c.args.at 0) c.if-lead-lt240.false)

@@ -1,5 +1,5 @@
-use Rattle·parse.proofs.Telling.{told-inside}
-use Rattle·sequence·proofs.chained.AndThenParser.check.Needs as need
+use Rattle.parse.proofs.Telling.{told_inside}
+use Rattle.sequence.proofs.chained.AndThenParser.check.Goals as goal
 
-pub check-answer-requires : need.check-answer-requires
-check-answer-requires g c κs = told-inside _ _ _ _ _ (c .in-Ok .ensures tt) (g .F·Subspan .inside _ _ _ _ (g .T·Text .lawful _ .solid) (c .pre)) .within
+pub check-answer-requires : goal.check-answer-requires
+check-answer-requires g c = (told_inside _ _ _ _ _ c.in-Ok.ensures (g.F.Subspan.inside _ _ _ _ (g.T.Text.lawful _).solid c.requires)).within

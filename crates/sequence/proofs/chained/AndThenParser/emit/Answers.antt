@@ -1,5 +1,5 @@
-use Rattle·parse.proofs.Telling.{told-inside}
-use Rattle·sequence·proofs.chained.AndThenParser.emit.Needs as need
+use Rattle.parse.proofs.Telling.{told_inside}
+use Rattle.sequence.proofs.chained.AndThenParser.emit.Goals as goal
 
-pub emit-requires : need.emit-requires
-emit-requires g c κs = told-inside _ _ _ _ _ (c .in-Continue-rest .ensures tt) (g .F·Subspan .inside _ _ _ _ (g .T·Text .lawful _ .solid) (c .pre)) .within
+pub emit-requires : goal.emit-requires
+emit-requires g c = (told_inside _ _ _ _ _ c.in-ok-rest.ensures (g.F.Subspan.inside _ _ _ _ (g.T.Text.lawful _).solid c.requires)).within

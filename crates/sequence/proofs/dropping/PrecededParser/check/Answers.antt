@@ -1,6 +1,6 @@
-use mathlib.Core.Path.{sym, _∙_}
-use Rattle·parse.proofs.Telling.{told-rests}
-use Rattle·sequence·proofs.dropping.PrecededParser.check.Needs as need
+use Rattle.std.proofs.Common.{sym, ◌∙◌}
+use Rattle.parse.proofs.Telling.{told_rests}
+use Rattle.sequence.proofs.dropping.PrecededParser.check.Goals as goal
 
-pub check-requires-in-Ok : need.check-requires-in-Ok
-check-requires-in-Ok g c κs = told-rests _ _ _ _ _ (sym (c .in-Ok .is) ∙ c .check .ensures .answered) (g .F·Parser .suffix _ _ _ _ (g .T·Text .lawful _ .solid) (c .pre)) .within
+pub check-requires-in-Ok : goal.check-requires-in-Ok
+check-requires-in-Ok g c = (told_rests _ _ _ _ _ (sym c.in-Ok.is ∙ c.check.ensures.answered) (g.F.Parser.suffix _ _ _ _ (g.T.Text.lawful _).solid c.requires)).within

@@ -1,9 +1,8 @@
-use borrow.Author.Needs.{needs}
-use mathlib.Core.Path.{sym, _∙_}
-use Rattle·parse.proofs.Telling.{told-rests}
-use Rattle·sequence·proofs.dropping.PrecededParser.emit.Needs as need
+use Rattle.std.proofs.Common.{sym, ◌∙◌, rules}
+use Rattle.parse.proofs.Telling.{told_rests}
+use Rattle.sequence.proofs.dropping.PrecededParser.emit.Goals as goal
 
-pub emit-requires : need.emit-requires
-emit-requires g c κs =
-    let rest = told-rests _ _ _ _ _ (sym (c .in-Continue-rest .was tt) ∙ c .check .ensures .answered) (g .F·Parser .suffix _ _ _ _ (g .T·Text .lawful _ .solid) (c .pre)) .within in
-    search needs
+pub emit-requires : goal.emit-requires
+emit-requires g c =
+    let rest = (told_rests _ _ _ _ _ (sym c.in-ok-rest.was ∙ c.check.ensures.answered) (g.F.Parser.suffix _ _ _ _ (g.T.Text.lawful _).solid c.requires)).within in
+    search rules

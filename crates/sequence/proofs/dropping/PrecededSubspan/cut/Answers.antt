@@ -1,6 +1,6 @@
-use mathlib.Core.Path.{sym, _∙_}
-use Rattle·parse.proofs.Telling.{told-rests}
-use Rattle·sequence·proofs.dropping.PrecededSubspan.cut.Needs as need
+use Rattle.std.proofs.Common.{sym, ◌∙◌}
+use Rattle.parse.proofs.Telling.{told_rests}
+use Rattle.sequence.proofs.dropping.PrecededSubspan.cut.Goals as goal
 
-pub cut-requires : need.cut-requires
-cut-requires g c κs = told-rests _ _ _ _ _ (sym (c .in-Continue-rest .was tt) ∙ c .check .ensures .answered) (g .F·Parser .suffix _ _ _ _ (g .T·Text .lawful _ .solid) (c .pre)) .within
+pub cut-requires : goal.cut-requires
+cut-requires g c = (told_rests _ _ _ _ _ (sym c.in-ok-rest.was ∙ c.check.ensures.answered) (g.F.Parser.suffix _ _ _ _ (g.T.Text.lawful _).solid c.requires)).within

@@ -1,6 +1,6 @@
-use Rattle·parse.specs.Subspans.{inside-suffix}
-use Rattle·parse.proofs.Telling.{told-rests}
-use Rattle·sequence·proofs.dropping.TerminatedSubspan.cut.Needs as need
+use Rattle.parse.specs.Subspans.{inside_suffix}
+use Rattle.parse.proofs.Telling.{told_rests}
+use Rattle.sequence.proofs.dropping.TerminatedSubspan.cut.Goals as goal
 
-pub check-requires : need.check-requires
-check-requires g c κs = told-rests _ _ _ _ _ (c .in-Continue-rest .ensures tt) (inside-suffix _ _ _ (g .F·Subspan .inside _ _ _ _ (g .T·Text .lawful _ .solid) (c .pre))) .within
+pub check-requires : goal.check-requires
+check-requires g c = (told_rests _ _ _ _ _ c.in-ok-rest.ensures (inside_suffix _ _ _ (g.F.Subspan.inside _ _ _ _ (g.T.Text.lawful _).solid c.requires))).within

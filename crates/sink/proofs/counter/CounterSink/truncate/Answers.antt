@@ -1,24 +1,23 @@
-use borrow.Author.Needs.{needs}
-use mathlib.Core.Path.{sym, refl}
+use Rattle.std.proofs.Common.{sym, refl, rules}
 use lib.ListN.{length-replicate}
-use Rattle·std.proofs.shelf.Lists.{take-replicate, take-all}
-use Rattle·sink·proofs.Items.{above, inside}
-use Rattle·sink·proofs.counter.CounterSink.truncate.Needs as need
+use Rattle.std.proofs.lemmas.List.{take-replicate, take_all}
+use Rattle.sink.proofs.Items.{above, inside}
+use Rattle.sink.proofs.counter.CounterSink.truncate.Goals as goal
 
-pub returns-then-len-self : need.returns-then-len-self
+pub returns-then-len-self : goal.returns-then-len-self
 returns-then-len-self c =
     record {
       cap = refl;
       lent = refl;
-      answer = above _ _ _ (sym (length-replicate _ _)) (c .if-len-self .taken);
-      list = search (needs, length-replicate, take-all);
+      answer = above _ _ _ (sym (length-replicate _ _)) c.if-len-self.true;
+      list = search (rules, length-replicate, take_all);
     }
 
-pub returns : need.returns
+pub returns : goal.returns
 returns c =
     record {
       cap = refl;
       lent = refl;
-      answer = inside _ _ (rw length-replicate (c .if-len-self .left));
-      list = search (needs, take-replicate);
+      answer = inside _ _ (rw length-replicate c.if-len-self.false);
+      list = search (rules, take-replicate);
     }

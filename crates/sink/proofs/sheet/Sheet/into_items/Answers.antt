@@ -1,12 +1,12 @@
-use Rattle·sink·proofs.Places.{sheet-front, sheet-fits}
-use Rattle·sink·proofs.sheet.Sheet.into_items.Needs as need
+use Rattle.sink.proofs.Places.{sheet_front, sheet_fits}
+use Rattle.sink.proofs.sheet.Sheet.into_items.Goals as goal
 
-pub part-result-end : need.part-result-end
-part-result-end g c =
-    let self = c .args .self in
-    sheet-fits (self .places .now) (self .len) (c .len-len .result) (c .len-len .ensures)
+pub slice-bounds-result-end : goal.slice-bounds-result-end
+slice-bounds-result-end g c =
+    let self = c.args.self in
+    sheet_fits self.places.now self.len c.len-len.result c.len-len.ensures
 
-pub returns : need.returns
+pub returns : goal.returns
 returns g c =
-    let self = c .args .self in
-    sheet-front (self .places .now) (self .len) (c .len-len .result) (c .len-len .ensures)
+    let self = c.args.self in
+    sheet_front self.places.now self.len c.len-len.result c.len-len.ensures

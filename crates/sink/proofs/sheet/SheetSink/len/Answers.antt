@@ -1,6 +1,5 @@
-use native.Mathlib.Omega.{arith}
-use lib.ListN.{length-take}
-use Rattle·sink·proofs.sheet.SheetSink.len.Needs as need
+use Rattle.std.proofs.Common.{arith, length-take}
+use Rattle.sink.proofs.sheet.SheetSink.len.Goals as goal
 
-pub returns : need.returns
+pub returns : goal.returns
 returns g c = simp length-take (omega arith)

@@ -1,25 +1,23 @@
-use mathlib.Core.Path.{sym, refl}
-use native.Mathlib.Omega.{arith}
-use lib.Seq.{take-all}
-use Rattle·sink·proofs.Items.{above, inside}
-use Rattle·sink·proofs.Places.{sheet-cut}
-use Rattle·sink·proofs.sheet.SheetSink.truncate.Needs as need
+use Rattle.std.proofs.Common.{sym, refl, arith, take_all}
+use Rattle.sink.proofs.Items.{above, inside}
+use Rattle.sink.proofs.Places.{sheet_cut}
+use Rattle.sink.proofs.sheet.SheetSink.truncate.Goals as goal
 
-pub returns-then-len-had : need.returns-then-len-had
+pub returns-then-len-had : goal.returns-then-len-had
 returns-then-len-had g c =
     record {
       cap = refl;
       lent = refl;
-      answer = above _ _ _ (c .len-had .ensures) (c .if-len-had .taken);
-      list = sym (take-all _ _ (omega arith));
+      answer = above _ _ _ c.len-had.ensures c.if-len-had.true;
+      list = sym (take_all _ _ (omega arith));
     }
 
-pub returns : need.returns
+pub returns : goal.returns
 returns g c =
-    let self = c .args .self .now in
+    let self = c.args.self.now in
     record {
       cap = refl;
       lent = refl;
       answer = inside _ _ (omega arith);
-      list = sheet-cut (self .places .now) (self .len) (c .args .len) (omega arith);
+      list = sheet_cut self.places.now self.len c.args.len (omega arith);
     }

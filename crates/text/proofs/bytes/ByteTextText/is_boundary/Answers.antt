@@ -1,6 +1,6 @@
-use mathlib.Core.Path.{sym}
-use Rattle·text·specs.Singles.{boundary-singles}
-use Rattle·text·proofs.bytes.ByteTextText.is_boundary.Needs as need
+use Rattle.std.proofs.Common.{sym}
+use Rattle.text.specs.Singles.{boundary-singles}
+use Rattle.text.proofs.bytes.ByteTextText.is_boundary.Goals as goal
 
-pub returns : need.returns
-returns c = sym (boundary-singles (c .args .self .now .bytes .now) (c .args .at))
+pub returns : goal.returns
+returns c = sym (boundary-singles c.args.self.now.bytes.now c.args.at)

@@ -1,6 +1,6 @@
-use mathlib.Core.Path.{sym}
-use Rattle·text·specs.Singles.{total-singles}
-use Rattle·text·proofs.bytes.ByteTextText.len.Needs as need
+use Rattle.std.proofs.Common.{sym}
+use Rattle.text.specs.Singles.{total-singles}
+use Rattle.text.proofs.bytes.ByteTextText.len.Goals as goal
 
-pub returns : need.returns
-returns c = sym (total-singles (c .args .self .now .bytes .now))
+pub returns : goal.returns
+returns c = sym (total-singles c.args.self.now.bytes.now)

@@ -1,9 +1,9 @@
-use mathlib.Core.Path.{sym, ap, _∙_}
-use Rattle·text·specs.Cells.{singles}
-use Rattle·text·specs.Search.{until, is}
-use Rattle·text·specs.Singles.{cut-singles}
-use Rattle·text·proofs.bytes.ByteTextText.position_of.Needs as need
+use Rattle.std.proofs.Common.{sym, ap, ◌∙◌}
+use Rattle.text.specs.Cells.{singles}
+use Rattle.text.specs.Search.{until, is}
+use Rattle.text.specs.Singles.{cut-singles}
+use Rattle.text.proofs.bytes.ByteTextText.position_of.Goals as goal
 
-pub returns-then-code-lt256 : need.returns-then-code-lt256
+pub returns-then-code-lt256 : goal.returns-then-code-lt256
 returns-then-code-lt256 c =
-    c .find-byte .ensures .value ∙ ap (until (is (c .args .code))) (ap singles (c .bytes .ensures) ∙ sym (cut-singles (c .args .self .now .bytes .now) (c .args .span .start) (c .args .span .end)))
+    c.find-byte.ensures.value ∙ ap (until (is c.args.code)) (ap singles c.bytes.ensures ∙ sym (cut-singles c.args.self.now.bytes.now c.args.span.start c.args.span.end))

@@ -1,39 +1,37 @@
-use Prim.Native.Nat.{_+_, _-_, _≤_}
-use mathlib.Core.Path.{_≡_, sym, subst}
-use native.Mathlib.Omega.{arith}
-use Rattle·text.specs.Cells.{cut, Within}
-use Rattle·text.specs.Search.{until}
-use Rattle·text.proofs.Cuts.{cut-end}
-use Rattle·text.proofs.Walking.{walk-on, walk-here, walk-end}
-use Rattle·utf8·specs.Octets.{scan}
-use Rattle·utf8·proofs.Starts.{some-cut, on-char}
-use Rattle·utf8·proofs.texts.Utf8TextText.position.Needs as need
+use Rattle.std.proofs.Common.{◌≡◌, ◌+◌, ◌-◌, ◌≤◌, sym, subst, arith}
+use Rattle.text.specs.Cells.{cut, Within}
+use Rattle.text.specs.Search.{until}
+use Rattle.text.proofs.Cuts.{cut_end}
+use Rattle.text.proofs.Walking.{walk_on, walk_here, walk_end}
+use Rattle.utf8.specs.Octets.{scan}
+use Rattle.utf8.proofs.Starts.{some_cut, on_char}
+use Rattle.utf8.proofs.texts.Utf8TextText.position.Goals as goal
 
-pub char-at-code-requires : need.char-at-code-requires
-char-at-code-requires g c κs = some-cut (c .args .self .now .bytes .now) (c .loop-at .at) (c .args .span .end) (c .loop-at .inv .1) (c .loop-at-test .taken)
+pub char-at-code-requires : goal.char-at-code-requires
+char-at-code-requires g c = some_cut c.args.self.now.bytes.now c.loop-at.at c.args.span.end c.loop-at.invariant.1 c.loop-at-test.true
 
-pub returns-then-test : need.returns-then-test
+pub returns-then-test : goal.returns-then-test
 returns-then-test g c =
-    let bs = c .args .self .now .bytes .now in
-    let on = on-char bs (c .loop-at .at) (c .args .span .end) (c .loop-at .inv .1) (c .loop-at-test .taken) _ (c .char-at-code .ensures .point) in
-    walk-here (g .P·Predicate .holds (c .args .predicate .now)) (scan bs) (c .args .span .start) (c .loop-at .at) (c .args .span .end) _ (c .loop-at .inv .2) _ on (c .loop-at .inv .0) (sym (c .if-test .ensures tt))
+    let bs = c.args.self.now.bytes.now in
+    let on = on_char bs c.loop-at.at c.args.span.end c.loop-at.invariant.1 c.loop-at-test.true _ c.char-at-code.ensures.point in
+    walk_here (g.P.Predicate.holds c.args.predicate.now) (scan bs) c.args.span.start c.loop-at.at c.args.span.end _ c.loop-at.invariant.2 _ on c.loop-at.invariant.0 (sym c.if-test.ensures)
 
-pub loop-at-less : need.loop-at-less
-loop-at-less g c =
-    let on = on-char (c .args .self .now .bytes .now) (c .loop-at .at) (c .args .span .end) (c .loop-at .inv .1) (c .loop-at-test .taken) _ (c .char-at-code .ensures .point) in
-    omega (arith, on .fits, on .wide, c .char-at-code .ensures .next)
+pub loop-at-smaller : goal.loop-at-smaller
+loop-at-smaller g c =
+    let on = on_char c.args.self.now.bytes.now c.loop-at.at c.args.span.end c.loop-at.invariant.1 c.loop-at-test.true _ c.char-at-code.ensures.point in
+    omega (arith, on.fits, on.wide, c.char-at-code.ensures.next)
 
-pub loop-at-again : need.loop-at-again
-loop-at-again g c =
-    let cells = scan (c .args .self .now .bytes .now) in
-    let p = g .P·Predicate .holds (c .args .predicate .now) in
-    let s = c .args .span .start in
-    let e = c .args .span .end in
-    let on = on-char (c .args .self .now .bytes .now) (c .loop-at .at) e (c .loop-at .inv .1) (c .loop-at-test .taken) _ (c .char-at-code .ensures .point) in
-    subst (λ n. (s ≤ n) × Within cells n e × (n - s + until p (cut cells n e) ≡ until p (cut cells s e))) (sym (c .char-at-code .ensures .next))
-    (omega arith, on .within, walk-on p cells s (c .loop-at .at) e _ (c .loop-at .inv .2) _ on (c .loop-at .inv .0) (sym (c .if-test .ensures tt)))
+pub loop-at-preserved : goal.loop-at-preserved
+loop-at-preserved g c =
+    let cells = scan c.args.self.now.bytes.now in
+    let p = g.P.Predicate.holds c.args.predicate.now in
+    let s = c.args.span.start in
+    let e = c.args.span.end in
+    let on = on_char c.args.self.now.bytes.now c.loop-at.at e c.loop-at.invariant.1 c.loop-at-test.true _ c.char-at-code.ensures.point in
+    subst (λ n. (s ≤ n) × Within cells n e × (n - s + until p (cut cells n e) ≡ until p (cut cells s e))) (sym c.char-at-code.ensures.next)
+    (omega arith, on.within, walk_on p cells s c.loop-at.at e _ c.loop-at.invariant.2 _ on c.loop-at.invariant.0 (sym c.if-test.ensures))
 
-pub returns : need.returns
+pub returns : goal.returns
 returns g c =
-    let bs = c .args .self .now .bytes .now in
-    walk-end (g .P·Predicate .holds (c .args .predicate .now)) (scan bs) (c .args .span .start) (c .loop-at .at) (c .args .span .end) _ (c .loop-at .inv .2) (cut-end (scan bs) (c .loop-at .at) (c .args .span .end) (c .loop-at-test .left))
+    let bs = c.args.self.now.bytes.now in
+    walk_end (g.P.Predicate.holds c.args.predicate.now) (scan bs) c.args.span.start c.loop-at.at c.args.span.end _ c.loop-at.invariant.2 (cut_end (scan bs) c.loop-at.at c.args.span.end c.loop-at-test.false)
