@@ -11,11 +11,11 @@ step g c = item_on _ _ _ _ (g.T.Text.lawful c.args.text.now).solid c.loop-width.
 short : (g : given.Over) (c : In-Some g) → c.loop-width.span.end ≤ 1048576
 short g c = let law = g.T.Text.lawful c.args.text.now in omega (arith, law.whole, law.few, c.loop-width.invariant.0)
 
-pub overflow-add-span : goal.overflow-add-span
-overflow-add-span g c = omega (arith, (step g (goal.at.overflow-add-span g c).In-Some).fits, short g (goal.at.overflow-add-span g c).In-Some)
+pub overflow_add-span : goal.overflow_add-span
+overflow_add-span g c = omega (arith, (step g (goal.at.overflow_add-span g c).In-Some).fits, short g (goal.at.overflow_add-span g c).In-Some)
 
-pub overflow-add-count : goal.overflow-add-count
-overflow-add-count g c = omega (arith, (step g (goal.at.overflow-add-count g c).In-Some).fits, short g (goal.at.overflow-add-count g c).In-Some)
+pub overflow_add-count : goal.overflow_add-count
+overflow_add-count g c = omega (arith, (step g (goal.at.overflow_add-count g c).In-Some).fits, short g (goal.at.overflow_add-count g c).In-Some)
 
 pub loop-width-smaller : goal.loop-width-smaller
 loop-width-smaller g c = let on = step g (goal.at.loop-width-smaller g c).In-Some in omega (arith, on.fits, on.wide)

@@ -26,24 +26,24 @@ and_true : (b : Bool) → (b && true) ≡ b
 and_true true = refl
 and_true false = refl
 
-pub returns-then-not-is-inside : goal.returns-then-not-is-inside
-returns-then-not-is-inside c =
-    sym (one c.args.row.now.tails _ _ c.args.bytes.now c.args.at (omega arith) (omega arith) ∙ and_left _ _ (sym c.if-not-is-inside.ensures))
+pub returns-then-not-is_inside : goal.returns-then-not-is_inside
+returns-then-not-is_inside c =
+    sym (one c.args.row.now.tails _ _ c.args.bytes.now c.args.at (omega arith) (omega arith) ∙ and_left _ _ (sym c.if-not-is_inside.ensures))
 
 pub returns-then-tails-eq1 : goal.returns-then-tails-eq1
 returns-then-tails-eq1 c =
     let none : c.args.row.now.tails - 1 ≡ 0 = omega arith in
-    sym (one c.args.row.now.tails _ _ c.args.bytes.now c.args.at (omega arith) (omega arith) ∙ and_from _ _ (sym c.if-not-is-inside.ensures) (sym (follow_end 0x80 0xBF (drop (c.args.at + 1) c.args.bytes.now) _ none)))
+    sym (one c.args.row.now.tails _ _ c.args.bytes.now c.args.at (omega arith) (omega arith) ∙ and_from _ _ (sym c.if-not-is_inside.ensures) (sym (follow_end 0x80 0xBF (drop (c.args.at + 1) c.args.bytes.now) _ none)))
 
-pub returns-then-not-is-inside-2 : goal.returns-then-not-is-inside-2
-returns-then-not-is-inside-2 c =
-    sym (two c.args.row.now.tails _ _ c.args.bytes.now c.args.at (omega arith) (omega arith) c.if-not-is-inside.ensures ∙ and_left _ _ (sym c.if-not-is-inside-2.ensures))
+pub returns-then-not-is_inside-2 : goal.returns-then-not-is_inside-2
+returns-then-not-is_inside-2 c =
+    sym (two c.args.row.now.tails _ _ c.args.bytes.now c.args.at (omega arith) (omega arith) c.if-not-is_inside.ensures ∙ and_left _ _ (sym c.if-not-is_inside-2.ensures))
 
 pub returns-then-tails-eq2 : goal.returns-then-tails-eq2
 returns-then-tails-eq2 c =
     let none : c.args.row.now.tails - 1 - 1 ≡ 0 = omega arith in
     eq-eqb _ _ c.if-tails-eq2.true
-    ∙ sym (two c.args.row.now.tails _ _ c.args.bytes.now c.args.at (omega arith) (omega arith) c.if-not-is-inside.ensures ∙ and_from _ _ (sym c.if-not-is-inside-2.ensures) (sym (follow_end 0x80 0xBF (drop (c.args.at + 1 + 1) c.args.bytes.now) _ none)))
+    ∙ sym (two c.args.row.now.tails _ _ c.args.bytes.now c.args.at (omega arith) (omega arith) c.if-not-is_inside.ensures ∙ and_from _ _ (sym c.if-not-is_inside-2.ensures) (sym (follow_end 0x80 0xBF (drop (c.args.at + 1 + 1) c.args.bytes.now) _ none)))
 
 pub returns-else-tails-eq2 : goal.returns-else-tails-eq2
 returns-else-tails-eq2 c =
@@ -51,6 +51,6 @@ returns-else-tails-eq2 c =
     let at = c.args.at in
     let none : c.args.row.now.tails - 1 - 1 - 1 ≡ 0 = omega arith in
     let sum : at + 2 ≡ at + 1 + 1 = omega arith in
-    c.is-inside-else-tails-eq2.ensures
+    c.is_inside-else-tails-eq2.ensures
     ∙ ap (λ i. inside 0x80 0xBF (get_or bs i 0)) sum
-    ∙ sym (three c.args.row.now.tails _ _ bs at (omega arith) (omega arith) c.if-not-is-inside.ensures c.if-not-is-inside-2.ensures ∙ ap (λ b. inside 0x80 0xBF (get_or bs (at + 1 + 1) 0) && b) (sym (follow_end 0x80 0xBF (drop (at + 1 + 1 + 1) bs) _ none)) ∙ and_true _)
+    ∙ sym (three c.args.row.now.tails _ _ bs at (omega arith) (omega arith) c.if-not-is_inside.ensures c.if-not-is_inside-2.ensures ∙ ap (λ b. inside 0x80 0xBF (get_or bs (at + 1 + 1) 0) && b) (sym (follow_end 0x80 0xBF (drop (at + 1 + 1 + 1) bs) _ none)) ∙ and_true _)

@@ -11,8 +11,8 @@ returns-then-lead-lt128 c =
     let n = tails_0 (get_or bs c.args.at 0) c.if-lead-lt128.true in
     record { point = code_at_1 bs c.args.at (starts_at bs c.args.at c.requires) n; next = omega (arith, n) }
 
-pub overflow-add-second : goal.overflow-add-second
-overflow-add-second c = let i = (starts_at c.args.bytes.now c.args.at c.requires).inner in omega arith
+pub overflow_add-second : goal.overflow_add-second
+overflow_add-second c = let i = (starts_at c.args.bytes.now c.args.at c.requires).inner in omega arith
 
 pub bounds-bytes-at-2 : goal.bounds-bytes-at-2
 bounds-bytes-at-2 c =
@@ -20,13 +20,13 @@ bounds-bytes-at-2 c =
     let n = some_tails (get_or c.args.bytes.now c.args.at 0) c.if-lead-lt128.false in
     omega arith
 
-pub overflow-sub-second : goal.overflow-sub-second
-overflow-sub-second c =
+pub overflow_sub-second : goal.overflow_sub-second
+overflow_sub-second c =
     let n = some_tails (get_or c.args.bytes.now c.args.at 0) c.if-lead-lt128.false in
     (starts_at c.args.bytes.now c.args.at c.requires).tails (c.args.at + 1) (omega arith) (omega arith)
 
-pub overflow-sub-result : goal.overflow-sub-result
-overflow-sub-result c = ⊎_elim (λ h. absurd (omega (arith, h, c.if-lead-lt128.false))) (λ h. h) (starts_at c.args.bytes.now c.args.at c.requires).lead
+pub overflow_sub-result : goal.overflow_sub-result
+overflow_sub-result c = ⊎_elim (λ h. absurd (omega (arith, h, c.if-lead-lt128.false))) (λ h. h) (starts_at c.args.bytes.now c.args.at c.requires).lead
 
 pub returns-then-lead-lt224 : goal.returns-then-lead-lt224
 returns-then-lead-lt224 c =
@@ -34,8 +34,8 @@ returns-then-lead-lt224 c =
     let n = tails_1 (get_or bs c.args.at 0) c.if-lead-lt128.false c.if-lead-lt224.true in
     record { point = code_at_2 bs c.args.at (starts_at bs c.args.at c.requires) n; next = omega (arith, n) }
 
-pub overflow-add-third : goal.overflow-add-third
-overflow-add-third c = let i = (starts_at c.args.bytes.now c.args.at c.requires).inner in omega arith
+pub overflow_add-third : goal.overflow_add-third
+overflow_add-third c = let i = (starts_at c.args.bytes.now c.args.at c.requires).inner in omega arith
 
 pub bounds-bytes-at-3 : goal.bounds-bytes-at-3
 bounds-bytes-at-3 c =
@@ -43,8 +43,8 @@ bounds-bytes-at-3 c =
     let n = two_tails (get_or c.args.bytes.now c.args.at 0) c.if-lead-lt224.false in
     omega arith
 
-pub overflow-sub-third : goal.overflow-sub-third
-overflow-sub-third c =
+pub overflow_sub-third : goal.overflow_sub-third
+overflow_sub-third c =
     let n = two_tails (get_or c.args.bytes.now c.args.at 0) c.if-lead-lt224.false in
     (starts_at c.args.bytes.now c.args.at c.requires).tails (c.args.at + 2) (omega arith) (omega arith)
 
@@ -54,8 +54,8 @@ returns-then-lead-lt240 c =
     let n = tails_2 (get_or bs c.args.at 0) c.if-lead-lt224.false c.if-lead-lt240.true in
     record { point = code_at_3 bs c.args.at (starts_at bs c.args.at c.requires) n; next = omega (arith, n) }
 
-pub overflow-add-fourth : goal.overflow-add-fourth
-overflow-add-fourth c = let i = (starts_at c.args.bytes.now c.args.at c.requires).inner in omega arith
+pub overflow_add-fourth : goal.overflow_add-fourth
+overflow_add-fourth c = let i = (starts_at c.args.bytes.now c.args.at c.requires).inner in omega arith
 
 pub bounds-bytes-at-4 : goal.bounds-bytes-at-4
 bounds-bytes-at-4 c =
@@ -63,8 +63,8 @@ bounds-bytes-at-4 c =
     let n = tails_3 (get_or c.args.bytes.now c.args.at 0) c.if-lead-lt240.false in
     omega arith
 
-pub overflow-sub-fourth : goal.overflow-sub-fourth
-overflow-sub-fourth c =
+pub overflow_sub-fourth : goal.overflow_sub-fourth
+overflow_sub-fourth c =
     let n = tails_3 (get_or c.args.bytes.now c.args.at 0) c.if-lead-lt240.false in
     (starts_at c.args.bytes.now c.args.at c.requires).tails (c.args.at + 3) (omega arith) (omega arith)
 
@@ -75,20 +75,20 @@ returns c =
     record { point = code_at_4 bs c.args.at (starts_at bs c.args.at c.requires) n; next = omega (arith, n) }
 
 -- the sums lie below the bytes' length, which is a number of the machine
-pub overflow-add-result : goal.overflow-add-result
-overflow-add-result c = let i = (starts_at c.args.bytes.now c.args.at c.requires).inner in omega arith
+pub overflow_add-result : goal.overflow_add-result
+overflow_add-result c = let i = (starts_at c.args.bytes.now c.args.at c.requires).inner in omega arith
 
-pub overflow-add-result-then-lead-lt224-2 : goal.overflow-add-result-then-lead-lt224-2
-overflow-add-result-then-lead-lt224-2 c =
+pub overflow_add-result-then-lead-lt224-2 : goal.overflow_add-result-then-lead-lt224-2
+overflow_add-result-then-lead-lt224-2 c =
     let f = (starts_at c.args.bytes.now c.args.at c.requires).fits in
     omega (arith, f, tails_1 (get_or c.args.bytes.now c.args.at 0) c.if-lead-lt128.false c.if-lead-lt224.true)
 
-pub overflow-add-result-then-lead-lt240-3 : goal.overflow-add-result-then-lead-lt240-3
-overflow-add-result-then-lead-lt240-3 c =
+pub overflow_add-result-then-lead-lt240-3 : goal.overflow_add-result-then-lead-lt240-3
+overflow_add-result-then-lead-lt240-3 c =
     let f = (starts_at c.args.bytes.now c.args.at c.requires).fits in
     omega (arith, f, tails_2 (get_or c.args.bytes.now c.args.at 0) c.if-lead-lt224.false c.if-lead-lt240.true)
 
-pub overflow-add-result-5 : goal.overflow-add-result-5
-overflow-add-result-5 c =
+pub overflow_add-result-5 : goal.overflow_add-result-5
+overflow_add-result-5 c =
     let f = (starts_at c.args.bytes.now c.args.at c.requires).fits in
     omega (arith, f, tails_3 (get_or c.args.bytes.now c.args.at 0) c.if-lead-lt240.false)

@@ -14,4 +14,4 @@ with_rest (x ∷ ws) w word e b h n =
     (ap string_bytes (sym e) ∙ b, omega arith, all)
 
 pub returns-else-rest-eq0 : goal.returns-else-rest-eq0
-returns-else-rest-eq0 c = with_rest c.args.words.now c.first-item.result _ c.first-item.is (sym c.as-str-word.ensures.value ∙ c.in-text-2.is) (omega arith) c.if-rest-eq0.false
+returns-else-rest-eq0 c = with_rest c.args.words.now c.first-item.result _ c.first-item.is (sym c.as_str-word.ensures.value ∙ c.in-text-2.is) (omega arith) c.if-rest-eq0.false

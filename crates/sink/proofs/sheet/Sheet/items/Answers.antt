@@ -1,8 +1,8 @@
 use Rattle.sink.proofs.Places.{sheet_front, sheet_fits}
 use Rattle.sink.proofs.sheet.Sheet.items.Goals as goal
 
-pub slice-bounds-result-end : goal.slice-bounds-result-end
-slice-bounds-result-end g c =
+pub slice_bounds-result-end : goal.slice_bounds-result-end
+slice_bounds-result-end g c =
     let self = c.args.self.now in
     sheet_fits self.places.now self.len c.len-len.result c.len-len.ensures
 

@@ -11,6 +11,6 @@ returns c =
     let s = c.args.span.start in
     let e = c.args.span.end in
     let well = c.args.self.now.well in
-    c.compare-chars.ensures.items (subst WellFormed (sym c.bytes.ensures) (well_cut text s e well c.requires)) c.args.tag.now.well
+    c.compare_chars.ensures.items (subst WellFormed (sym c.bytes.ensures) (well_cut text s e well c.requires)) c.args.tag.now.well
     ∙ ap (λ l. matched (scan l) (scan tag)) c.bytes.ensures
     ∙ ap (λ l. matched l (scan tag)) (sym (cut-scan text s e well c.requires))

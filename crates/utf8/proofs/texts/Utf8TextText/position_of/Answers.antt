@@ -12,7 +12,7 @@ returns-then-code-lt128 c =
     let e = c.args.span.end in
     let part = take (e - s) (drop s bs) in
     let well = c.args.self.now.well in
-    c.find-byte.ensures.value
+    c.find_byte.ensures.value
     ∙ ap (λ l. until (is c.args.code) (singles l)) c.bytes.ensures
     ∙ until_ascii c.args.code part c.if-code-lt128.true (well_cut bs s e well c.requires)
     ∙ ap (until (is c.args.code)) (sym (cut-scan bs s e well c.requires))

@@ -23,19 +23,19 @@ here bs at e w h = starts_at bs at (some_cut bs at e w h)
 pub bounds-self-at : goal.bounds-self-at
 bounds-self-at c = (here c.args.self.now.bytes.now c.loop-left.at c.args.span.end c.loop-left.invariant.within c.if-at-span.false).inner
 
-pub overflow-add-at : goal.overflow-add-at
-overflow-add-at c =
+pub overflow_add-at : goal.overflow_add-at
+overflow_add-at c =
     let bs = c.args.self.now.bytes.now in
     let at = c.loop-left.at in
     let on = on_char bs at c.args.span.end c.loop-left.invariant.within c.if-at-span.false _ (here bs at c.args.span.end c.loop-left.invariant.within c.if-at-span.false).gives in
-    omega (arith, on.fits, c.char-len-at.ensures)
+    omega (arith, on.fits, c.char_len-at.ensures)
 
 pub loop-left-preserved : goal.loop-left-preserved
 loop-left-preserved c =
     let bs = c.args.self.now.bytes.now in
     let at = c.loop-left.at in
     let on = on_char bs at c.args.span.end c.loop-left.invariant.within c.if-at-span.false _ (here bs at c.args.span.end c.loop-left.invariant.within c.if-at-span.false).gives in
-    subst (λ n. Slicing unknown (scan bs) c.args.span.start c.args.span.end (sliced unknown c.args.count (cut (scan bs) c.args.span.start c.args.span.end)) (at + n) (c.loop-left.left - 1)) (sym c.char-len-at.ensures)
+    subst (λ n. Slicing unknown (scan bs) c.args.span.start c.args.span.end (sliced unknown c.args.count (cut (scan bs) c.args.span.start c.args.span.end)) (at + n) (c.loop-left.left - 1)) (sym c.char_len-at.ensures)
     (slicing_on unknown _ _ _ _ _ _ c.loop-left.invariant _ on c.loop-left-test.true)
 
 pub returns : goal.returns
