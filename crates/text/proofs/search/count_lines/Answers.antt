@@ -31,12 +31,12 @@ pub item-requires : goal.item-requires
 item-requires g c = (next g (goal.at.item-requires g c).After-position_of).within
 
 pub overflow_add-span-in-Some : goal.overflow_add-span-in-Some
-overflow_add-span-in-Some g c = let p = (goal.at.overflow_add-span-in-Some g c).In-Some in omega (arith, (step g p).ranges, short g p)
+overflow_add-span-in-Some g c = let p = (goal.at.overflow_add-span-in-Some g c).In-Some in omega (arith, (step g p).fits, short g p)
 
 pub overflow_add-count : goal.overflow_add-count
 overflow_add-count g c =
     let p = (goal.at.overflow_add-count g c).In-Some in
-    omega (arith, (step g p).ranges, (step g p).wide, short g p, (next g (goal.at.overflow_add-count g c).After-position_of).few)
+    omega (arith, (step g p).fits, (step g p).wide, short g p, (next g (goal.at.overflow_add-count g c).After-position_of).few)
 
 pub returns-in-None : goal.returns-in-None
 returns-in-None g c =
