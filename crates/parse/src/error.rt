@@ -1,17 +1,14 @@
 // Errors: what went wrong, and where. nom's `error.rs`.
-ghost use Rattle.std.specs.Prelude.{◌≡◌, Some, None, Decides, refl};
+ghost use Rattle.std.specs.Prelude.{◌≡◌, Some, None, refl};
 ghost use Rattle.text.specs.declared.Span.{Span};
 ghost use Rattle.parse.specs.declared.error.ErrorKind.{ErrorKind};
 ghost use Rattle.parse.specs.Errors.{number_of, further, further_associates};
-ghost use Rattle.std.specs.Cmp.Rules.{comparing};
-ghost use Rattle.std.proofs.Common.{rules};
-ghost use Rattle.std.specs.Cmp as Keys;
 
 use std::fmt;
 use text::Span;
 
 // Which parser an error comes from: nom's kinds, as far as the parsers here use them, with nom's numbers.
-#[derive(Clone, Copy, Debug)]
+#[derive(Clone, Copy, PartialEq, Eq, Debug)]
 pub enum ErrorKind {
     Tag,
     MapRes,
@@ -67,21 +64,6 @@ pub fn error_to_u32(kind: ErrorKind) -> u32
         ErrorKind::TakeWhileMN => 69,
         ErrorKind::Many1Count => 72,
     }
-}
-
-// Kinds are told apart by their numbers, since no two have the same one.
-impl PartialEq for ErrorKind {
-    ghost equals = { λ a b r. Decides r (a ≡ b) };
-
-    ghost laws = { Keys.partial_equiv_from_equiv (Prim.search (comparing, rules)) };
-
-    fn eq(&self, other: &ErrorKind) -> bool {
-        error_to_u32(*self) == error_to_u32(*other)
-    }
-}
-
-impl Eq for ErrorKind {
-    ghost laws = { Prim.search (comparing, rules) };
 }
 
 // An error that a parser can give. Its functions are pure: each is one of its ghost members.
