@@ -4,5 +4,5 @@ use Rattle.sequence.proofs.chained.FlatMapParser.emit.Goals as goal
 
 pub emit-requires : goal.emit-requires
 emit-requires g c =
-    let rest = (told_rests _ _ _ _ _ (sym c.in-ok-rest.was ∙ c.check.ensures.answered) (g.F.Parser.suffix _ _ _ _ (g.T.Text.lawful _).solid c.requires)).within in
+    let rest = (told_rests _ _ _ _ _ (sym c.in_ok-rest.was ∙ c.check.ensures.answered) (g.F.Parser.suffix _ _ _ _ (g.T.Text.lawful _).solid c.requires)).within in
     search rules
