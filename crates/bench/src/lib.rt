@@ -1,4 +1,6 @@
 // The library's scans under C names, for the benchmark in tools/bench to call. Nothing else uses this crate.
+#![tactic(auto)]
+
 ghost use Rattle.std.specs.Prelude.{◌≡◌};
 ghost use Rattle.text.specs.Answers.{byte_text_check, byte_tag_check, kept};
 ghost use Rattle.text.specs.Cells.{total, singles};

@@ -1,5 +1,5 @@
 -- What the leaves of the demonstration mean. Assumes nothing.
-use Rattle.std.specs.Prelude.{◌≡◌, ℕ, ◌+◌, ◌≤◌, Bool, true, false, cond, ◌&&◌, List, [], ◌∷◌, Some, None, Option, nat_le, refl}
+use Rattle.std.specs.Prelude.{◌≡◌, ℕ, ◌+◌, Bool, true, false, ◌&&◌, List, [], ◌∷◌, Some, None, Option, nat_le, refl}
 use Rattle.std.proofs.Common.{arith, sym}
 use Rattle.text.specs.declared.Span.{Span}
 use Rattle.text.specs.Cells.{Cell, Solid, first, cut, Within}
@@ -7,9 +7,9 @@ use Rattle.text.specs.Need.{needed}
 use Rattle.text.specs.Search.{until, is}
 use Rattle.text.proofs.Cuts.{On, item_on}
 use Rattle.text.proofs.Walking.{until_within}
-use Rattle.parse.specs.Run.{Outcome, done, incomplete, error, failure, Run, Rests, Suffix}
+use Rattle.parse.specs.Run.{done, incomplete, error, Run, Suffix}
 use Rattle.parse.specs.Algebra.{still}
-use Rattle.parse.specs.Subspans.{Inner, Inside}
+use Rattle.parse.specs.Subspans.{Inside}
 
 -- the digits `0` to `9`, by code
 abbrev pub digit : ℕ → Bool

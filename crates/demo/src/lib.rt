@@ -2,6 +2,8 @@
 //
 // `Satisfy` takes one item, and appends its code to the sink. `Before` cuts out the span before an item. `line` is a build
 // that reads two runs of hooks, as in `3u,5d`.
+#![tactic(auto)]
+
 ghost use Rattle.std.specs.Prelude.{◌≡◌, ◌+◌, ◌-◌, ◌≤◌, Bool, ◌&&◌};
 ghost use Rattle.text.specs.Cells.{first, cut, Within};
 ghost use Rattle.text.specs.Search.{until, is};

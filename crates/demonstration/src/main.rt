@@ -1,5 +1,7 @@
 // Shows what the demonstration's parser makes of each line that the command line gives, by check and by emit, when more
 // input may follow and when none does.
+#![tactic(auto)]
+
 use std::{env, io};
 
 mod lines;

@@ -2,6 +2,8 @@
 //
 // `main` reads the arguments, the files and the standard input, and prints. What it prints of a text is counted by
 // functions with contracts (module `report`); what the words of the command line mean is decided in module `command`.
+#![tactic(auto)]
+
 use std::alloc::AllocError;
 use std::{env, fs, io};
 

@@ -1,10 +1,10 @@
 -- What a run on a whole text comes to, for a caller of check and of emit.
-use Rattle.std.proofs.Common.{◌≡◌, ℕ, ◌+◌, ◌<◌, ◌≤◌, min, List, ◌++◌, length, Ok, Err, Result, sym, refl, ap, ◌∙◌, arith, length-append}
+use Rattle.std.proofs.Common.{◌≡◌, ℕ, ◌+◌, ◌≤◌, List, length, Ok, Err, Result, sym, ap, ◌∙◌, arith, length-append}
 use Rattle.text.specs.declared.Span.{Span}
 use Rattle.text.specs.Cells.{Cell}
 use Rattle.parse.specs.declared.Fault.{Fault}
-use Rattle.parse.specs.Run.{Outcome, Run, Emits, full as is-full, room as has_room, Checks, told, items, Suffix}
-use Rattle.parse.specs.Whole.{Remains, Undone, Agrees, full, room, Agreeing}
+use Rattle.parse.specs.Run.{Run, Emits, full as is-full, room as has_room, Checks, items, Suffix}
+use Rattle.parse.specs.Whole.{Remains, Undone, full, room, Agreeing}
 use Rattle.parse.proofs.Telling.{told_rests}
 use Rattle.parse.proofs.Emitting.{same, emitted_rests}
 

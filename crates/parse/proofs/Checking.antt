@@ -1,5 +1,5 @@
 -- How the checks of two parts make the check of both.
-use Rattle.std.proofs.Common.{◌≡◌, ℕ, ◌+◌, ◌≤◌, min, max, List, [], ◌++◌, length, Ok, Err, Result, sym, refl, ap, ◌∙◌, subst, arith, length-append}
+use Rattle.std.proofs.Common.{◌≡◌, ℕ, ◌+◌, max, List, length, Ok, Err, Result, sym, refl, ap, ◌∙◌, subst, arith, length-append}
 use Rattle.text.specs.declared.Span.{Span}
 use Rattle.parse.specs.declared.Fault.{Fault}
 use Rattle.parse.specs.Run.{Outcome, done, incomplete, error, failure, Run, Checks, told, items, capped}

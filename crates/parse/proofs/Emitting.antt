@@ -1,10 +1,9 @@
 -- How the emits of two parts make the emit of both.
-use Rattle.std.proofs.Common.{◌≡◌, ℕ, ◌+◌, ◌<◌, ◌≤◌, max, List, [], ◌++◌, length, take, Ok, Err, Result, sym, refl, ap, ◌∙◌, subst, append_assoc, append-nil, arith, length-append}
+use Rattle.std.proofs.Common.{◌≡◌, ℕ, ◌+◌, ◌≤◌, max, List, [], ◌++◌, length, take, Ok, Err, sym, refl, ap, ◌∙◌, subst, append_assoc, append-nil, arith, length-append}
 use lib.Seq.{take-append_seam}
 use Rattle.text.specs.declared.Span.{Span}
 use Rattle.text.specs.Cells.{Cell}
 use Rattle.parse.specs.declared.Fault.{Fault}
-use Rattle.parse.specs.declared.Fault.TheVariants.{Full}
 use Rattle.parse.specs.Run.{Outcome, done, incomplete, error, failure, Run, Emits, full, room, told, items, Rests, Suffix}
 use Rattle.parse.specs.Algebra.{behind, follow, and_then, mapped, map_run, keeping, closing, and_step}
 use Rattle.parse.proofs.Telling.{was_done, mapped_fault}

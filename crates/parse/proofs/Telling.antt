@@ -1,5 +1,5 @@
 -- What an answer tells of the outcome that it is of.
-use Rattle.std.proofs.Common.{◌≡◌, ℕ, List, Ok, Err, Result, refl, ap, subst, arith}
+use Rattle.std.proofs.Common.{◌≡◌, ℕ, List, Ok, Err, ap, subst, arith}
 use Rattle.text.specs.declared.Span.{Span}
 use Rattle.text.specs.Cells.{Cell}
 use Rattle.parse.specs.declared.Fault.{Fault}

@@ -1,6 +1,5 @@
 -- The algebra of runs: what a combinator's run is, from the runs of its parts. Assumes nothing.
-use Rattle.std.specs.Prelude.{ℕ, ◌+◌, max, List, [], ◌++◌, length}
-use Rattle.text.specs.declared.Needed.{Needed}
+use Rattle.std.specs.Prelude.{ℕ, ◌+◌, max, List, ◌++◌, length}
 use Rattle.text.specs.declared.Span.{Span}
 use Rattle.parse.specs.Run.{Outcome, done, incomplete, error, failure, Run}
 

@@ -1,6 +1,6 @@
 -- The kinds' numbers, and how the error that got furthest is chosen. Assumes nothing.
-use Rattle.std.specs.Prelude.{◌≡◌, ℕ, ◌<◌, ◌≤◌, Bool, true, false, cond, nat_lt, refl}
-use Rattle.std.proofs.Common.{arith, sym, ap, ◌∙◌, ltb-true, ltb-false, lt-ltb, le-ltb}
+use Rattle.std.specs.Prelude.{◌≡◌, ℕ, Bool, true, false, cond, nat_lt, refl}
+use Rattle.std.proofs.Common.{arith, ltb-true, ltb-false, lt-ltb, le-ltb}
 use Rattle.parse.specs.declared.error.ErrorKind.{ErrorKind}
 use Rattle.parse.specs.declared.error.ErrorKind.TheVariants as kind
 use Rattle.parse.specs.declared.error.Far.{Far}

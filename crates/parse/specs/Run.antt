@@ -1,5 +1,5 @@
 -- What a parser means: an outcome, and the most of its items that stood at one moment. Assumes nothing.
-use Rattle.std.specs.Prelude.{◌≡◌, ℕ, ◌+◌, ◌<◌, ◌≤◌, min, max, List, [], ◌∷◌, ◌++◌, length, Ok, Err, Result}
+use Rattle.std.specs.Prelude.{◌≡◌, ℕ, ◌+◌, ◌<◌, ◌≤◌, min, List, [], ◌++◌, length, Ok, Err, Result}
 use Rattle.text.specs.declared.Needed.{Needed}
 use Rattle.text.specs.declared.Span.{Span}
 use Rattle.text.specs.Cells.{Cell, Within}

@@ -1,5 +1,5 @@
 -- Every remainder is a suffix of its span: what each operation on runs keeps of that. Assumes nothing.
-use Rattle.std.specs.Prelude.{◌≡◌, ℕ, ◌≤◌, List, refl}
+use Rattle.std.specs.Prelude.{ℕ, List, refl}
 use Rattle.std.proofs.Common.{arith, ◌∙◌}
 use Rattle.text.specs.declared.Span.{Span}
 use Rattle.text.specs.Cells.{Cell, Within}

@@ -7,6 +7,8 @@
 //
 // A leaf says its meaning by a definition on the items; a combinator says its own by the algebra of runs
 // (specs/Algebra.antt) from the meanings of its parts, and is proved once for all parts.
+#![tactic(auto)]
+
 ghost use Rattle.std.specs.Prelude.{◌≡◌, ℕ, Bool, List, take as front, Err};
 ghost use Rattle.text.specs.declared.Span.{Span};
 ghost use Rattle.text.specs.Cells.{Cell, Solid, Within};

@@ -1,3 +1,5 @@
+#![tactic(auto)]
+
 // Tests of parsers, by tables of cases. They stand in a crate of their own, since a crate with tests is proved twice.
 #[cfg(test)]
 mod chained;

@@ -4,7 +4,6 @@ use crate::runs::{Outcome, Row, run_rows};
 use demo::DigitValue;
 use parse::ErrorKind;
 use sequence::{ParserExt, pair};
-use std::test::Fail;
 use text::{Complete, Streaming};
 
 const VALUES: [Row<u32>; 3] = [
@@ -14,8 +13,8 @@ const VALUES: [Row<u32>; 3] = [
 ];
 
 #[test]
-fn map(rt: HostRuntime) -> Result<(), Fail> {
-    run_rows(&rt, &digit().map(DigitValue), Complete, &VALUES)
+fn map(rt: HostRuntime) {
+    run_rows(&rt, &digit().map(DigitValue), Complete, &VALUES);
 }
 
 // A refusal is an error at entry, and the item that stood is cut back.
@@ -27,8 +26,8 @@ const SMALL: [Row<u32>; 4] = [
 ];
 
 #[test]
-fn map_res(rt: HostRuntime) -> Result<(), Fail> {
-    run_rows(&rt, &digit().map_res(Small), Complete, &SMALL)
+fn map_res(rt: HostRuntime) {
+    run_rows(&rt, &digit().map_res(Small), Complete, &SMALL);
 }
 
 const RISING: [Row<(u32, u32)>; 4] = [
@@ -39,13 +38,13 @@ const RISING: [Row<(u32, u32)>; 4] = [
 ];
 
 #[test]
-fn map_opt(rt: HostRuntime) -> Result<(), Fail> {
+fn map_opt(rt: HostRuntime) {
     run_rows(
         &rt,
         &pair(digit(), digit()).map_opt(Rising),
         Complete,
         &RISING,
-    )
+    );
 }
 
 // Entry is where the build itself starts, behind what came before.
@@ -56,11 +55,11 @@ const SECOND_SMALL: [Row<(u32, u32)>; 3] = [
 ];
 
 #[test]
-fn refused_behind_another(rt: HostRuntime) -> Result<(), Fail> {
+fn refused_behind_another(rt: HostRuntime) {
     run_rows(
         &rt,
         &pair(digit(), digit().map_res(Small)),
         Streaming,
         &SECOND_SMALL,
-    )
+    );
 }

@@ -4,7 +4,6 @@ use crate::runs::{Outcome, Row, run_rows};
 use demo::line;
 use parse::ErrorKind;
 use sequence::{delimited, pair, preceded, separated_pair, terminated};
-use std::test::Fail;
 use text::{Complete, Streaming};
 
 const DIGIT: [Row<u32>; 4] = [
@@ -15,8 +14,8 @@ const DIGIT: [Row<u32>; 4] = [
 ];
 
 #[test]
-fn one_item(rt: HostRuntime) -> Result<(), Fail> {
-    run_rows(&rt, &digit(), Complete, &DIGIT)
+fn one_item(rt: HostRuntime) {
+    run_rows(&rt, &digit(), Complete, &DIGIT);
 }
 
 const AB: [Row<(u32, u32)>; 5] = [
@@ -35,10 +34,10 @@ const AB_STREAMING: [Row<(u32, u32)>; 4] = [
 ];
 
 #[test]
-fn both_outputs(rt: HostRuntime) -> Result<(), Fail> {
+fn both_outputs(rt: HostRuntime) {
     let ab = pair(item(b'a'), item(b'b'));
-    run_rows(&rt, &ab, Complete, &AB)?;
-    run_rows(&rt, &ab, Streaming, &AB_STREAMING)
+    run_rows(&rt, &ab, Complete, &AB);
+    run_rows(&rt, &ab, Streaming, &AB_STREAMING);
 }
 
 // The item of the first part is dropped, and never stands.
@@ -56,9 +55,9 @@ const FIRST: [Row<u32>; 3] = [
 ];
 
 #[test]
-fn one_output(rt: HostRuntime) -> Result<(), Fail> {
-    run_rows(&rt, &preceded(item(b'a'), item(b'b')), Complete, &SECOND)?;
-    run_rows(&rt, &terminated(item(b'a'), item(b'b')), Complete, &FIRST)
+fn one_output(rt: HostRuntime) {
+    run_rows(&rt, &preceded(item(b'a'), item(b'b')), Complete, &SECOND);
+    run_rows(&rt, &terminated(item(b'a'), item(b'b')), Complete, &FIRST);
 }
 
 const BRACKETED: [Row<u32>; 4] = [
@@ -75,19 +74,19 @@ const SEPARATED: [Row<(u32, u32)>; 3] = [
 ];
 
 #[test]
-fn three_parts(rt: HostRuntime) -> Result<(), Fail> {
+fn three_parts(rt: HostRuntime) {
     run_rows(
         &rt,
         &delimited(item(b'('), digit(), item(b')')),
         Complete,
         &BRACKETED,
-    )?;
+    );
     run_rows(
         &rt,
         &separated_pair(digit(), item(b','), digit()),
         Complete,
         &SEPARATED,
-    )
+    );
 }
 
 const LINE: [Row<((u32, u32), (u32, u32))>; 6] = [
@@ -123,7 +122,7 @@ const LINE_STREAMING: [Row<((u32, u32), (u32, u32))>; 5] = [
 ];
 
 #[test]
-fn a_nested_build(rt: HostRuntime) -> Result<(), Fail> {
-    run_rows(&rt, &line(), Complete, &LINE)?;
-    run_rows(&rt, &line(), Streaming, &LINE_STREAMING)
+fn a_nested_build(rt: HostRuntime) {
+    run_rows(&rt, &line(), Complete, &LINE);
+    run_rows(&rt, &line(), Streaming, &LINE_STREAMING);
 }

@@ -2,7 +2,6 @@
 use parse::{Checked, Emitted, Error, ErrorKind, Fault, Parser, emit_into};
 use std::fmt::Debug;
 use std::process::Abort;
-use std::test::Fail;
 use text::{ByteText, Manner, Needed, Span, Text};
 
 // What a parser answers.
@@ -40,10 +39,9 @@ pub fn outcome_of<O>(answer: Result<(Span, O), Fault<Error>>) -> Outcome<O> {
 }
 
 // The slice's first places hold these items.
-fn check_items(rt: &impl Abort, places: &[u32], count: usize, items: &[u32]) -> Result<(), Fail> {
+fn check_items(rt: &impl Abort, places: &[u32], count: usize, items: &[u32]) {
     assert!(rt; count <= places.len());
     assert!(rt; &places[0..count] == items);
-    Ok(())
 }
 
 // `emit_into` answers what the row says, or `Full` where there are too few places.
@@ -52,24 +50,24 @@ fn run_emit<
     M: Manner + Copy,
     O: PartialEq + Debug + Copy,
     P: Parser<T, u32, Error, Output = O>,
->(
-    rt: &impl Abort,
-    parser: &P,
-    text: &T,
-    manner: M,
-    row: &Row<O>,
-    places: &mut [u32],
-) -> Result<(), Fail> {
-    let (_, expected, peak, items) = row;
+>(rt: &impl Abort, parser: &P, text: &T, manner: M, row: &Row<O>, places: &mut [u32]) {
+    let (source, expected, peak, items) = row;
     let free = places.len();
     let Emitted { answer, count } = emit_into(parser, text, manner, places);
     if free < *peak {
-        assert_eq!(rt; outcome_of(answer), Outcome::Full);
-        assert_eq!(rt; count, 0);
-        Ok(())
+        assert_eq!(rt;
+            outcome_of(answer),
+            Outcome::Full,
+            "{source:?} into {free} places"
+        );
+        assert_eq!(rt; count, 0, "{source:?} into {free} places");
     } else {
-        assert_eq!(rt; &outcome_of(answer), expected);
-        check_items(rt, places, count, items)
+        assert_eq!(rt;
+            &outcome_of(answer),
+            expected,
+            "{source:?} into {free} places"
+        );
+        check_items(rt, places, count, items);
     }
 }
 
@@ -79,21 +77,20 @@ pub fn run<
     M: Manner + Copy,
     O: PartialEq + Debug + Copy,
     P: Parser<T, u32, Error, Output = O>,
->(rt: &impl Abort, parser: &P, text: &T, manner: M, row: &Row<O>) -> Result<(), Fail> {
-    let (_, expected, most, items) = row;
+>(rt: &impl Abort, parser: &P, text: &T, manner: M, row: &Row<O>) {
+    let (source, expected, most, items) = row;
     let Checked {
         answer,
         count,
         peak,
     } = parse::check::<u32, Error, _, _, _>(parser, text, manner);
-    assert_eq!(rt; &outcome_of(answer), expected);
-    assert_eq!(rt; count as usize, items.len());
-    assert_eq!(rt; peak as usize, *most);
+    assert_eq!(rt; &outcome_of(answer), expected, "{source:?}");
+    assert_eq!(rt; count as usize, items.len(), "{source:?}");
+    assert_eq!(rt; peak as usize, *most, "{source:?}");
     for free in 0..=PLACES {
         let mut places = [0u32; PLACES];
-        run_emit(rt, parser, text, manner, row, &mut places[0..free])?;
+        run_emit(rt, parser, text, manner, row, &mut places[0..free]);
     }
-    Ok(())
 }
 
 // A parser on the rows of a table, over texts of bytes.
@@ -101,10 +98,9 @@ pub fn run_rows<
     M: Manner + Copy,
     O: PartialEq + Debug + Copy,
     P: Parser<ByteText<'static>, u32, Error, Output = O>,
->(rt: &impl Abort, parser: &P, manner: M, rows: &[Row<O>]) -> Result<(), Fail> {
+>(rt: &impl Abort, parser: &P, manner: M, rows: &[Row<O>]) {
     for row in rows {
         let text = row.0;
-        run(rt, parser, &ByteText::new(text.as_bytes()), manner, row).note(text)?;
+        run(rt, parser, &ByteText::new(text.as_bytes()), manner, row);
     }
-    Ok(())
 }

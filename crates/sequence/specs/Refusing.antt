@@ -2,7 +2,7 @@
 use Rattle.std.specs.Prelude.{List, [], Some, None, Ok, Err, Option, Result}
 use Rattle.text.specs.declared.Span.{Span}
 use Rattle.text.specs.Cells.{Cell, Within}
-use Rattle.parse.specs.Run.{Outcome, done, incomplete, error, failure, Suffix}
+use Rattle.parse.specs.Run.{Outcome, done, error, Suffix}
 use Rattle.parse.specs.Suffixes.{whole_rests}
 
 -- done with the value, or the error that is made of the function's own

@@ -10,6 +10,8 @@
 //
 // A type parameter that only a `PhantomData` holds is the output of a part that does not show in the combinator's own
 // output; the functions of `build` leave it to be inferred.
+#![tactic(auto)]
+
 pub mod build;
 pub mod chained;
 pub mod dropping;

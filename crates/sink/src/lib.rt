@@ -3,6 +3,8 @@
 // A sink means a list of items and a fixed capacity, at most 65,536. `push` appends an item, and refuses exactly at
 // capacity; `cut_back` shortens the list to a mark. Nothing else changes the list. A mark holds a length of the list and
 // is linear: it has to be spent, by `keep` or by `cut_back`, and only this module opens one.
+#![tactic(auto)]
+
 ghost use Rattle.std.specs.Prelude.{◌≡◌, ℕ, List, length, take as front};
 ghost use Rattle.std.specs.Borrow.{GName};
 ghost use Rattle.std.proofs.Math.Option.{Option};

@@ -93,12 +93,12 @@ fn keeping_leaves_the_list(rt: HostRuntime) {
     let pushed = sheet.push(20);
     sheet.keep(mark);
     assert_eq!(rt; pushed, Ok(()));
-    assert!(rt; sheet.items() == &[10, 20]);
+    assert!(rt; sheet.items() == [10, 20].as_slice());
     let mark = sheet.mark();
     let pushed = sheet.push(30);
     let cut = sheet.cut_back(mark);
     assert_eq!(rt; pushed, Ok(()));
     assert_eq!(rt; cut, Ok(()));
     let items: &[u8] = sheet.into_items();
-    assert!(rt; items == &[10, 20]);
+    assert!(rt; items == [10, 20].as_slice());
 }

@@ -1,7 +1,6 @@
 -- What the definitions of searching and counting come to. Assumes nothing.
 use Rattle.std.proofs.Common.{◌≡◌, ℕ, zero, suc, ◌+◌, ◌<◌, Bool, true, false, List, [], ◌∷◌, ◌++◌, get_or, Some, None, Option, sym, refl, ap, ◌∙◌, subst, ⊎_elim, arith}
 use Rattle.std.proofs.lemmas.Bool.{cases_Bool, cases_eq, and_from, eq-eqb, ne_eqb, false≢true, both_ways, cond-true, cond-false}
-use Rattle.text.specs.declared.CompareResult.TheVariants as compared
 use Rattle.text.specs.Cells.{Cell, total, singles}
 use Rattle.text.specs.Search.{same, matched, begins, found, further, until, is, lines}
 use Rattle.text.specs.Laws.{Begins, Stands, FirstPlace, Lines, last, more, FirstByte}

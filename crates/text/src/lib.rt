@@ -6,6 +6,8 @@
 //
 // Offsets that a text answers count bytes from the start of the span that was asked about, as nom's count from the
 // start of the input.
+#![tactic(auto)]
+
 ghost use Rattle.std.specs.Prelude.{◌≡◌, ℕ, ◌-◌, Bool, true, false, List, take as front, drop as rest, nat_le};
 ghost use Rattle.text.specs.declared.Needed.{Needed};
 ghost use Rattle.text.specs.Cells.{Cell, total, boundary, cut, Within, first, Lawful, Short};

@@ -2,6 +2,8 @@
 //
 // That they are well-formed is an invariant of the types `Utf8Text` and `Utf8Tag`, so no value of them is anything else,
 // and stepping over a code point tests nothing.
+#![tactic(auto)]
+
 pub mod check;
 pub mod rows;
 pub mod texts;

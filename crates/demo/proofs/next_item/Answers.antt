@@ -1,4 +1,4 @@
-use Rattle.std.proofs.Common.{arith, Fits}
+use Rattle.std.proofs.Common.{arith}
 use Rattle.text.proofs.Cuts.{item_on}
 use Rattle.demo.proofs.next_item.Goals as goal
 

@@ -1,4 +1,4 @@
-use Rattle.std.proofs.Common.{sym, ◌∙◌}
+use Rattle.std.proofs.Common.{◌∙◌}
 use Rattle.parse.proofs.Emitting.{emitted_rests, both_done, second_ends, map_done, map_ends}
 use Rattle.sequence.proofs.pairs.AndParser.emit.Goals as goal
 

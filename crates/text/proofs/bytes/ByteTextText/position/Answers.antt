@@ -3,7 +3,6 @@ use Rattle.text.specs.Cells.{singles}
 use Rattle.text.specs.Singles.{within-singles, first-singles, solid-singles}
 use Rattle.text.proofs.Cuts.{On, item_on, cut_end}
 use Rattle.text.proofs.Walking.{walk_on, walk_here, walk_end}
-use Rattle.text.proofs.bytes.ByteTextText.position.Given as given
 use Rattle.text.proofs.bytes.ByteTextText.position.Goals as goal
 use Rattle.text.proofs.bytes.ByteTextText.position.Goals.{then-loop-at-test+else-not-test, else-loop-at-test}
 
