@@ -3,7 +3,7 @@ use Rattle.std.proofs.Common.{◌≡◌, ℕ, ◌+◌, ◌≤◌, List, length, 
 use Rattle.text.specs.declared.Span.{Span}
 use Rattle.text.specs.Cells.{Cell}
 use Rattle.parse.specs.declared.Fault.{Fault}
-use Rattle.parse.specs.Run.{Run, Emits, full as is-full, room as has_room, Checks, items, Suffix}
+use Rattle.parse.specs.Run.{Run, Emits, full as is_full, room as has_room, Checks, items, Suffix}
 use Rattle.parse.specs.Whole.{Remains, Undone, full, room, Agreeing}
 use Rattle.parse.proofs.Telling.{told_rests}
 use Rattle.parse.proofs.Emitting.{same, emitted_rests}
@@ -11,7 +11,7 @@ use Rattle.parse.proofs.Emitting.{same, emitted_rests}
 module _ {O I E : Type 0} (x : Run O I E) where
   -- emit agrees with check: the numbers that check tells stop far above what a sink can hold
   pub agreeing : (n : ℕ) (l m : List I) (r : Result (Span × O) (Fault E)) → n ≤ 65536 → length m ≤ n → Emits x n l r m → Agreeing x n l r m
-  agreeing n l m r few within (is-full lt q s) answer c p h = full (omega (arith, h.peaked)) q s
+  agreeing n l m r few within (is_full lt q s) answer c p h = full (omega (arith, h.peaked)) q s
   agreeing n l m r few within (has_room le q s) answer c p h =
       let len : length m ≡ length l + length (items x.outcome) = ap length s ∙ length-append l (items x.outcome) in
       room (omega (arith, h.peaked)) (q ∙ sym h.answered) (items x.outcome) (omega (arith, h.counted)) s

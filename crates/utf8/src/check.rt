@@ -2,7 +2,7 @@
 ghost use Rattle.std.specs.Prelude.{◌≡◌, ℕ, ◌+◌, ◌<◌, ◌≤◌, false, length, drop as rest, slice_index};
 ghost use Rattle.std.specs.Option.{option_map};
 ghost use Rattle.text.specs.Cells.{total};
-ghost use Rattle.utf8.specs.Octets.{rows as table, row_of, follow, char as Char-of, width_of, scan, inside};
+ghost use Rattle.utf8.specs.Octets.{rows as table, row_of, follow, char as char_of, width_of, scan, inside};
 
 use super::rows::Row;
 
@@ -127,7 +127,7 @@ fn follows(bytes: &[u8], at: usize, row: &Row) -> bool
 // The width of the code point that starts at `at`: 0 where none does.
 fn width_at(bytes: &[u8], at: usize) -> usize
     requires { at < length bytes.now }
-    ensures { result ≡ width_of (Char-of (rest at bytes.now)) }
+    ensures { result ≡ width_of (char_of (rest at bytes.now)) }
 {
     match row_for(bytes[at]) {
         Some(row) => {

@@ -4,7 +4,7 @@ ghost use Rattle.text.specs.Answers.{kept};
 ghost use Rattle.text.specs.Cells.{singles};
 ghost use Rattle.text.specs.Need.{unknown};
 ghost use Rattle.text.specs.Search.{matched};
-ghost use Rattle.utf8.specs.Octets.{char as Char-of, scan, WellFormed, tails_of};
+ghost use Rattle.utf8.specs.Octets.{char as char_of, scan, WellFormed, tails_of};
 ghost use Rattle.utf8.specs.Scans.{scan_lawful, scan_short};
 ghost use Rattle.utf8.specs.Answers.{well_check, utf8_text_check, utf8_tag_check};
 ghost use Rattle.utf8.specs.Rfc.{Octets, codes, TextAnswer, TagAnswer};
@@ -115,8 +115,8 @@ fn char_len(lead: u8) -> usize
 // The code point that starts at `at`, where one does, and where the next starts: no byte is held against its range again.
 // Each width has a way of its own through the function, which a processor foretells better than a computed width.
 fn char_at(bytes: &[u8], at: usize) -> (u32, usize)
-    requires { is_some (Char-of (rest at bytes.now)) ≡ true }
-    ensures point { Some (result.0, suc (tails_of (slice_index bytes.now at))) ≡ Char-of (rest at bytes.now) }
+    requires { is_some (char_of (rest at bytes.now)) ≡ true }
+    ensures point { Some (result.0, suc (tails_of (slice_index bytes.now at))) ≡ char_of (rest at bytes.now) }
     ensures next { result.1 ≡ at + suc (tails_of (slice_index bytes.now at)) }
 {
     let lead = bytes[at];
