@@ -1,7 +1,7 @@
 // A demonstration of the parsers: two runs of hooks, as `3u,5d`, read by check and by emit.
-use parse::{Checked, Emitted, Error, Fault, Parser};
+use parse::{Checked, Emitted, Error, Fault};
 use std::{fmt, io};
-use text::{ByteText, Complete, Manner, Span, Streaming, Text};
+use text::{ByteText, Complete, Manner, Span, Streaming};
 
 // Both runs: a number of hooks, and the code of `u` or `d`.
 type Runs = ((u32, u32), (u32, u32));

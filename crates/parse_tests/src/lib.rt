@@ -1,6 +1,6 @@
+// Tests of parsers, by tables of cases. They stand in a crate of their own, since a crate with tests is proved twice.
 #![tactic(auto)]
 
-// Tests of parsers, by tables of cases. They stand in a crate of their own, since a crate with tests is proved twice.
 #[cfg(test)]
 mod chained;
 #[cfg(test)]

@@ -2,7 +2,7 @@
 use crate::parts::item;
 use crate::runs::{Outcome, outcome_of};
 use demo::line;
-use parse::{Emitted, ErrorKind, Parser, emit_into};
+use parse::{Emitted, ErrorKind, emit_into};
 use sink::{Sheet, Sink};
 use std::process::Abort;
 use text::{ByteText, Complete};

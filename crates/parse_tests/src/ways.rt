@@ -1,7 +1,7 @@
 // Another way at the same place.
 use crate::parts::{Stop, digit, item};
 use crate::runs::{Outcome, Row, run_rows};
-use parse::{ErrorKind, ParseError};
+use parse::ErrorKind;
 use sequence::{ParserExt, pair};
 use text::{Complete, Streaming};
 

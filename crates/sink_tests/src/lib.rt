@@ -1,6 +1,6 @@
+// Tests of sinks, by tables of cases. They stand in a crate of their own, since a crate with tests is proved twice.
 #![tactic(auto)]
 
-// Tests of sinks, by tables of cases. They stand in a crate of their own, since a crate with tests is proved twice.
 #[cfg(test)]
 mod limits;
 #[cfg(test)]

@@ -1,6 +1,6 @@
+// Tests of texts and tags, by tables of cases. They stand in a crate of their own, since a crate with tests is proved twice.
 #![tactic(auto)]
 
-// Tests of texts and tags, by tables of cases. They stand in a crate of their own, since a crate with tests is proved twice.
 #[cfg(test)]
 mod limits;
 #[cfg(test)]

@@ -1,6 +1,6 @@
 // RFC 3629 at its boundaries.
 use std::test::Fail;
-use text::{Refusal, Text};
+use text::Refusal;
 use utf8::{Utf8Text, valid_up_to};
 
 // Bytes, and how many of them the longest well-formed prefix has.
