@@ -1,5 +1,5 @@
 -- What the benchmark's functions answer. Assumes nothing.
-use Rattle.std.specs.Prelude.{ℕ, Bool, ◌&&◌, List, Some, None, Option, nat_le}
+use Rattle.std.specs.Prelude.{ℕ, Bool, ◌&&◌, List, nat_le, unwrap_or}
 use Rattle.text.specs.Cells.{Cell, total}
 use Rattle.text.specs.Search.{found}
 
@@ -7,10 +7,6 @@ use Rattle.text.specs.Search.{found}
 abbrev pub upper : ℕ → Bool
 upper item = nat_le 65 item && nat_le item 90
 
-abbrev pub place : Option ℕ → ℕ → ℕ
-place None end = end
-place (Some n) end = n
-
 -- where a tag is first found, or the end
 abbrev pub placed : List Cell → List Cell → ℕ
-placed cs ts = place (found cs ts) (total cs)
+placed cs ts = unwrap_or (found cs ts) (total cs)

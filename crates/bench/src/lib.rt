@@ -3,13 +3,13 @@
 
 ghost use Rattle.std.specs.Prelude.{◌≡◌};
 ghost use Rattle.text.specs.Answers.{byte_text_check, byte_tag_check, kept};
-ghost use Rattle.text.specs.Cells.{total, singles};
+ghost use Rattle.text.specs.Cells.{total, singles, part};
 ghost use Rattle.text.specs.Search.{until};
 ghost use Rattle.utf8.specs.Answers.{utf8_text_check, utf8_tag_check};
 ghost use Rattle.utf8.specs.Octets.{scan};
 ghost use Rattle.bench.specs.Found.{placed, upper};
 
-use text::{ByteTag, ByteText, Needle, Predicate, Text};
+use text::{ByteTag, ByteText, Input, Needle, Predicate};
 use utf8::{Utf8Tag, Utf8Text};
 
 // An upper-case ASCII letter: a test of some cost that the benchmark's texts seldom meet.
@@ -19,25 +19,15 @@ impl Predicate for Upper {
     ghost holds = { λ _ item. upper item };
 
     fn test(&self, item: u32) -> bool {
-        item >= 65 && item <= 90
+        (65..=90).contains(&item)
     }
 }
 
-fn place_of<T: Text>(text: &T, tag: &T::Tag) -> usize
-    ensures { result ≡ placed (T.Text.cells text.now) (T.Tag.Needle.spelt tag.now) }
+// A C function answers one number, so a tag that is nowhere is told by the input's length.
+fn place_of<T: Input>(input: &T, tag: &T::Tag) -> usize
+    ensures { result ≡ placed (part (T.cells input.now) (T.place input.now)) (T.Tag.Needle.spelt tag.now) }
 {
-    let span = text::whole(text);
-    match text::find(text, span, tag) {
-        Some(at) => at,
-        None => text.len(),
-    }
-}
-
-fn first_upper<T: Text>(text: &T) -> usize
-    ensures { result ≡ until upper (T.Text.cells text.now) }
-{
-    let span = text::whole(text);
-    text.position(span, &Upper)
+    text::find(input, tag).unwrap_or(input.input_len())
 }
 
 // How many bytes the longest well-formed prefix has.
@@ -69,7 +59,7 @@ pub extern "C" fn fazdrigon_find_utf8(bytes: &[u8], tag: &[u8]) -> usize
 pub extern "C" fn fazdrigon_position_bytes(bytes: &[u8]) -> usize
     ensures { result ≡ until upper (singles (kept (byte_text_check bytes.now) bytes.now)) }
 {
-    first_upper(&ByteText::new(bytes))
+    ByteText::new(bytes).position(&Upper)
 }
 
 // The same in a UTF-8 text.
@@ -77,5 +67,5 @@ pub extern "C" fn fazdrigon_position_bytes(bytes: &[u8]) -> usize
 pub extern "C" fn fazdrigon_position_utf8(bytes: &[u8]) -> usize
     ensures { result ≡ until upper (scan (kept (utf8_text_check bytes.now) bytes.now)) }
 {
-    first_upper(&Utf8Text::new(bytes))
+    Utf8Text::new(bytes).position(&Upper)
 }

@@ -4,21 +4,21 @@
 // that reads two runs of hooks, as in `3u,5d`.
 #![tactic(auto)]
 
-ghost use Rattle.std.specs.Prelude.{◌≡◌, ◌+◌, ◌-◌, ◌≤◌, Bool, ◌&&◌};
-ghost use Rattle.text.specs.Cells.{first, cut, Within};
+ghost use Rattle.std.specs.Prelude.{◌≡◌, ◌-◌, IfOk};
+ghost use Rattle.text.specs.Cells.{first, part};
 ghost use Rattle.text.specs.Search.{until, is};
-ghost use Rattle.parse.specs.Run.{told};
+ghost use Rattle.parse.specs.Run.{told, spanned};
 ghost use Rattle.parse.specs.declared.error.ErrorKind.TheVariants.{IsA as IsAKind};
 ghost use Rattle.demo.specs.Leaves.{satisfied, satisfied_suffix, before_item, before_inside, digit};
 
-use parse::{Checked, ErrorKind, Fault, Function, ParseError, Parser, Subspan};
+use parse::{Done, ErrorKind, Fault, Function, ParseError, Parser, Stopped, Subspan};
 use sequence::dropping::Preceded;
 use sequence::maps::Map;
 use sequence::pairs::And;
 use sequence::ways::Or;
 use sequence::{ParserExt, separated_pair};
 use sink::Sink;
-use text::{Is, Manner, Needed, Predicate, Span, Text};
+use text::{Input, Is, Manner, Needed, Predicate};
 
 // One item that meets a test. Its code is the output, and is appended to the sink.
 #[derive(Clone, Copy)]
@@ -26,68 +26,54 @@ pub struct Satisfy<P> {
     pub test: P,
 }
 
-// The item's code and what is left; `Error` where it fails the test, and at the span's end what the manner says.
-fn next_item<M: Manner, E: ParseError, T: Text, P: Predicate>(
-    text: &T,
-    span: Span,
+// The item's code and what is left; `Error` where it fails the test, and at the input's end what the manner says.
+fn next_item<M: Manner, E: ParseError, T: Input, P: Predicate>(
+    input: &T,
     test: &P,
-) -> Result<(Span, u32), Fault<E>>
-    requires { Within (T.Text.cells text.now) span.start span.end }
-    ensures { result ≡ told (satisfied (P.Predicate.holds test.now) (E.ParseError.made span IsAKind) M.Manner.complete span (first (cut (T.Text.cells text.now) span.start span.end))).outcome }
+) -> Result<(T, u32), Fault<E>>
+    ensures text { IfOk result (λ d. T.cells d.0 ≡ T.cells input.now) }
+    ensures raw { IfOk result (λ d. T.raw d.0 ≡ T.raw input.now) }
+    ensures item { spanned T.place result
+        ≡ told (satisfied (P.holds test.now) (E.made (T.place input.now) IsAKind) M.complete (T.place input.now) (first (part (T.cells input.now) (T.place input.now)))).outcome }
 {
-    match text.item(span) {
-        Some((code, width)) => {
-            if !test.test(code) {
-                return Err(Fault::Error(E::from_error_kind(span, ErrorKind::IsA)));
-            }
-            let start = span.start + width;
-            Ok((
-                Span {
-                    start,
-                    end: span.end,
-                },
-                code,
-            ))
-        }
-        None => {
-            if M::is_complete() {
-                return Err(Fault::Error(E::from_error_kind(span, ErrorKind::IsA)));
-            }
-            Err(Fault::Incomplete(Needed::new(1)))
-        }
+    match input.item() {
+        Some((code, width)) if test.test(code) => Ok((input.take_from(width), code)),
+        None if !M::is_complete() => Err(Fault::Incomplete(Needed::new(1))),
+        _ => Err(Fault::Error(E::from_error_kind(input.span(), ErrorKind::IsA))),
     }
 }
 
-impl<T: Text, E: ParseError, P: Predicate> Parser<T, u32, E> for Satisfy<P> {
+impl<T: Input, E: ParseError, P: Predicate> Parser<T, u32, E> for Satisfy<P> {
     type Output = u32;
 
-    ghost means = { λ p cs s c. satisfied (P.Predicate.holds p.test) (E.ParseError.made s IsAKind) c s (first (cut cs s.start s.end)) };
+    ghost means = { λ p cs s c. satisfied
+        (P.holds p.test)
+        (E.made s IsAKind) c s
+        (first (part cs s)) };
 
-    ghost suffix = { λ p cs s c k w. satisfied_suffix (P.Predicate.holds p.test) (E.ParseError.made s IsAKind) c cs s k w };
-
-    fn check<M: Manner>(&self, text: &T, span: Span) -> Checked<u32, E> {
-        match next_item::<M, E, T, P>(text, span, &self.test) {
-            Ok(taken) => Checked {
-                answer: Ok(taken),
-                count: 1,
-                peak: 1,
-            },
-            Err(fault) => Checked::stopped(fault, 0),
-        }
+    fn check<M: Manner>(&self, input: &T) -> Result<Done<T, u32>, Stopped<E>> {
+        let (rest, code) = next_item::<M, E, T, P>(input, &self.test).map_err(Stopped::at_once)?;
+        Ok(Done {
+            rest,
+            output: code,
+            count: 1,
+            peak: 1,
+        })
     }
 
     fn emit<M: Manner, S: Sink<Item = u32>>(
         &self,
-        text: &T,
-        span: Span,
+        input: &T,
         sink: &mut S,
-    ) -> Result<(Span, u32), Fault<E>> {
-        let (rest, code) = next_item::<M, E, T, P>(text, span, &self.test)?;
-        match sink.push(code) {
-            Ok(_) => Ok((rest, code)),
-            Err(_full) => Err(Fault::Full),
-        }
+    ) -> Result<(T, u32), Fault<E>> {
+        let (rest, code) = next_item::<M, E, T, P>(input, &self.test)?;
+        sink.push(code).map_err(|_full| Fault::Full)?;
+        Ok((rest, code))
     }
+
+    ghost suffix = { λ p cs s c k w. satisfied_suffix
+        (P.holds p.test)
+        (E.made s IsAKind) c cs s k w };
 }
 
 // The span before the first item that has this code: all of it where none has.
@@ -96,24 +82,14 @@ pub struct Before {
     pub code: u32,
 }
 
-impl<T: Text, I: Copy, E: ParseError> Subspan<T, I, E> for Before {
+impl<T: Input, I: Copy, E: ParseError> Subspan<T, I, E> for Before {
     ghost cuts = { λ p cs s c. before_item p.code cs s };
 
-    ghost inside = { λ p cs s c k w. before_inside I E p.code cs s k w };
-
-    fn cut<M: Manner>(&self, text: &T, span: Span) -> Result<(Span, Span), Fault<E>> {
-        let at = span.start + text.position_of(span, self.code);
-        Ok((
-            Span {
-                start: at,
-                end: span.end,
-            },
-            Span {
-                start: span.start,
-                end: at,
-            },
-        ))
+    fn cut<M: Manner>(&self, input: &T) -> Result<(T, T), Fault<E>> {
+        Ok(input.take_split(input.position_of(self.code)))
     }
+
+    ghost inside = { λ p cs s c k w. before_inside I E p.code cs s k w };
 }
 
 // The digits `0` to `9`.
@@ -124,7 +100,7 @@ impl Predicate for Digit {
     ghost holds = { λ _. digit };
 
     fn test(&self, item: u32) -> bool {
-        48 <= item && item <= 57
+        (48..=57).contains(&item)
     }
 }
 
@@ -132,21 +108,21 @@ impl Predicate for Digit {
 #[derive(Clone, Copy)]
 pub struct DigitValue;
 
-impl<T: Text> Function<T, u32> for DigitValue {
+impl<T: Input> Function<T, u32> for DigitValue {
     type Value = u32;
 
     ghost value = { λ _ _ code. code - 48 };
 
-    fn call(&self, _text: &T, code: u32) -> u32 {
+    fn call(&self, _input: &T, code: u32) -> u32 {
         code.saturating_sub(48)
     }
 }
 
 // A number of hooks, and the code of `u` or `d`.
-type Run = And<Map<Satisfy<Digit>, DigitValue, u32>, Or<Satisfy<Is>, Satisfy<Is>>>;
+type Run = And<Map<Satisfy<Digit>, DigitValue>, Or<Satisfy<Is>, Satisfy<Is>>>;
 
 // Two runs with a comma between them, as a pair of pairs. The comma is dropped.
-pub type Line = And<Run, Preceded<Satisfy<Is>, Run, u32>>;
+pub type Line = And<Run, Preceded<Satisfy<Is>, Run>>;
 
 fn item(code: u32) -> Satisfy<Is>
     ensures { result.test.code ≡ code }

@@ -66,10 +66,10 @@ fn show_manner<M: Manner + Copy>(
 
 // Prints what the parser gives on the line, under both manners, by check and by emit into enough and into too few places.
 pub fn show_line(rt: &HostRuntime, line: &[u8]) -> io::Result<()> {
-    if let Err(refusal) = ByteText::check(line) {
-        return println!(rt; "  refused: {refusal}");
-    }
-    let text = ByteText::new(line);
+    let text = match ByteText::try_from(line) {
+        Ok(text) => text,
+        Err(refusal) => return println!(rt; "  refused: {refusal}"),
+    };
     show_manner(rt, "streaming", &text, Streaming)?;
     show_manner(rt, "complete", &text, Complete)
 }

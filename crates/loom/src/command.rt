@@ -38,21 +38,12 @@ impl<'a> Command<'a> {
         let [first, rest @ ..] = words else {
             return Err(UsageError::NoCommand);
         };
-        let word = first.as_str();
-        match word {
-            "--help" => {
-                if rest.len() > 0 {
-                    return Err(UsageError::TooManyWords);
-                }
-                Ok(Command::Help)
-            }
-            "text" => {
-                if rest.len() == 0 {
-                    return Err(UsageError::NoFile);
-                }
-                Ok(Command::Text(rest))
-            }
-            _ => Err(UsageError::UnknownCommand(word)),
+        match (first.as_str(), rest) {
+            ("--help", []) => Ok(Command::Help),
+            ("--help", _) => Err(UsageError::TooManyWords),
+            ("text", []) => Err(UsageError::NoFile),
+            ("text", names) => Ok(Command::Text(names)),
+            (word, _) => Err(UsageError::UnknownCommand(word)),
         }
     }
 }

@@ -1,6 +1,1 @@
-pub mod Lives
-pub mod Telling
-pub mod Checking
-pub mod Emitting
-pub mod Joining
 pub mod Agreeing

@@ -23,7 +23,3 @@ or_fault f (Incomplete n) = Incomplete n
 or_fault f (Error e) = Error (f e)
 or_fault f (Failure e) = Failure e
 or_fault f Full = Full
-
-abbrev pub or_answer : {O E : Type 0} → (E → E) → Result (Span × O) (Fault E) → Result (Span × O) (Fault E)
-or_answer f (Ok x) = Ok x
-or_answer f (Err x) = Err (or_fault f x)

@@ -3,6 +3,8 @@ use Rattle.std.specs.Prelude.{◌≡◌, ℕ, ◌+◌, ◌<◌, ◌≤◌, min, 
 use Rattle.text.specs.declared.Needed.{Needed}
 use Rattle.text.specs.declared.Span.{Span}
 use Rattle.text.specs.Cells.{Cell, Within}
+use Rattle.parse.specs.declared.Done.{Done}
+use Rattle.parse.specs.declared.Stopped.{Stopped}
 use Rattle.parse.specs.declared.Fault.{Fault}
 use Rattle.parse.specs.declared.Fault.TheVariants.{Incomplete, Error, Failure, Full}
 
@@ -37,6 +39,24 @@ items (failure e) = []
 pub data Emits {O I E : Type 0} (run : Run O I E) (places : ℕ) (before : List I) (r : Result (Span × O) (Fault E)) (after : List I) : Type 0 where
   full : places < length before + run.peak → r ≡ Err Full → after ≡ before → Emits run places before r after
   room : length before + run.peak ≤ places → r ≡ told run.outcome → after ≡ before ++ items run.outcome → Emits run places before r after
+
+-- an answer with its remainder as a span
+abbrev pub spanned : {T O E : Type 0} → (T → Span) → Result (T × O) (Fault E) → Result (Span × O) (Fault E)
+spanned place (Ok x) = Ok (place x.0, x.1)
+spanned place (Err e) = Err e
+
+-- the parts of what a check gives: the answer, the number of items, which is 0 where it stopped, and the peak
+abbrev pub answer_of : {T O E : Type 0} → (T → Span) → Result (Done T O) (Stopped E) → Result (Span × O) (Fault E)
+answer_of place (Ok d) = Ok (place d.rest, d.output)
+answer_of place (Err s) = Err s.fault
+
+abbrev pub count_of : {T O E : Type 0} → Result (Done T O) (Stopped E) → ℕ
+count_of (Ok d) = d.count
+count_of (Err s) = 0
+
+abbrev pub peak_of : {T O E : Type 0} → Result (Done T O) (Stopped E) → ℕ
+peak_of (Ok d) = d.peak
+peak_of (Err s) = s.peak
 
 -- a number as a check tells it: it stops at the largest of 32 bits
 abbrev pub capped : ℕ → ℕ

@@ -1,11 +1,17 @@
 -- A span that a parser cuts out of its own. Assumes nothing.
-use Rattle.std.specs.Prelude.{ℕ, ◌≤◌, List}
+use Rattle.std.specs.Prelude.{ℕ, ◌≤◌, List, Ok, Err, Result}
 use Rattle.std.proofs.Common.{arith}
 use Rattle.text.specs.declared.Span.{Span}
 use Rattle.text.specs.Cells.{Cell, Within}
+use Rattle.parse.specs.declared.Fault.{Fault}
 use Rattle.parse.specs.Run.{Outcome, done, incomplete, error, failure, Run, Rests, Suffix}
 use Rattle.parse.specs.Algebra.{still, after, rest_at, keeping, mapped, closing, and_step, or_error, recover, on_error, either}
 use Rattle.parse.specs.Suffixes.{rests_trans, rest_suffix, tried_suffix}
+
+-- an answer with its remainder and its output as spans
+abbrev pub both_spanned : {T E : Type 0} → (T → Span) → Result (T × T) (Fault E) → Result (Span × Span) (Fault E)
+both_spanned place (Ok x) = Ok (place x.0, place x.1)
+both_spanned place (Err e) = Err e
 
 -- a span u of the text that lies inside s
 pub record Inner (cs : List Cell) (s u : Span) : Type 0 where

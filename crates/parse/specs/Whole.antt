@@ -1,14 +1,10 @@
--- What is said of a run on a whole text, in the words of a caller of check and of emit. Assumes nothing.
+-- What is said of a run on an input, in the words of a caller of check and of emit. Assumes nothing.
 use Rattle.std.specs.Prelude.{◌≡◌, ℕ, ◌+◌, ◌<◌, ◌≤◌, List, ◌++◌, length, Ok, Err, Result}
 use Rattle.text.specs.declared.Span.{Span}
-use Rattle.text.specs.Cells.{Cell, total}
+use Rattle.text.specs.Cells.{Cell}
 use Rattle.parse.specs.declared.Fault.{Fault}
 use Rattle.parse.specs.declared.Fault.TheVariants.{Full}
 use Rattle.parse.specs.Run.{Run, Checks, Rests}
-
--- the span of a whole text
-abbrev pub all : List Cell → Span
-all cs = record { start = 0; end = total cs }
 
 -- where an answer is Ok, its remainder is one of the span
 abbrev pub Remains : {O E : Type 0} → List Cell → Span → Result (Span × O) (Fault E) → Type 0

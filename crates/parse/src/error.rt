@@ -10,60 +10,36 @@ use text::Span;
 // Which parser an error comes from: nom's kinds, as far as the parsers here use them, with nom's numbers.
 #[derive(Clone, Copy, PartialEq, Eq, Debug)]
 pub enum ErrorKind {
-    Tag,
-    MapRes,
-    MapOpt,
-    Alt,
-    IsNot,
-    IsA,
-    SeparatedList,
-    Many1,
-    Count,
-    TakeUntil,
-    LengthValue,
-    Eof,
-    TakeWhile1,
-    Complete,
-    ManyMN,
-    Many0,
-    Not,
-    Permutation,
-    ManyTill,
-    Verify,
-    TakeTill1,
-    TakeWhileMN,
-    Many1Count,
+    Tag = 1,
+    MapRes = 2,
+    MapOpt = 3,
+    Alt = 4,
+    IsNot = 5,
+    IsA = 6,
+    SeparatedList = 7,
+    Many1 = 9,
+    Count = 10,
+    TakeUntil = 12,
+    LengthValue = 15,
+    Eof = 23,
+    TakeWhile1 = 47,
+    Complete = 48,
+    ManyMN = 57,
+    Many0 = 62,
+    Not = 63,
+    Permutation = 64,
+    ManyTill = 65,
+    Verify = 66,
+    TakeTill1 = 67,
+    TakeWhileMN = 69,
+    Many1Count = 72,
 }
 
 // The number of a kind, as nom has it.
 pub fn error_to_u32(kind: ErrorKind) -> u32
     ensures { result ≡ number_of kind }
 {
-    match kind {
-        ErrorKind::Tag => 1,
-        ErrorKind::MapRes => 2,
-        ErrorKind::MapOpt => 3,
-        ErrorKind::Alt => 4,
-        ErrorKind::IsNot => 5,
-        ErrorKind::IsA => 6,
-        ErrorKind::SeparatedList => 7,
-        ErrorKind::Many1 => 9,
-        ErrorKind::Count => 10,
-        ErrorKind::TakeUntil => 12,
-        ErrorKind::LengthValue => 15,
-        ErrorKind::Eof => 23,
-        ErrorKind::TakeWhile1 => 47,
-        ErrorKind::Complete => 48,
-        ErrorKind::ManyMN => 57,
-        ErrorKind::Many0 => 62,
-        ErrorKind::Not => 63,
-        ErrorKind::Permutation => 64,
-        ErrorKind::ManyTill => 65,
-        ErrorKind::Verify => 66,
-        ErrorKind::TakeTill1 => 67,
-        ErrorKind::TakeWhileMN => 69,
-        ErrorKind::Many1Count => 72,
-    }
+    kind as u32
 }
 
 // An error that a parser can give. Its functions are pure: each is one of its ghost members.
@@ -74,8 +50,6 @@ pub trait ParseError: Drop + Sized {
     ghost appended: { Span → ErrorKind → Self → Self };
     // the error of two ways that both failed
     ghost joined: { Self → Self → Self };
-    // what each implementation proves: of three ways, it does not matter which two are joined first
-    ghost associates: { (a b c : Self) → joined (joined a b) c ≡ joined a (joined b c) };
 
     fn from_error_kind(input: Span, kind: ErrorKind) -> Self
         ensures { result ≡ made input kind };
@@ -85,6 +59,9 @@ pub trait ParseError: Drop + Sized {
 
     fn or(self, other: Self) -> Self
         ensures { result ≡ joined self other };
+
+    // what each implementation proves: of three ways, it does not matter which two are joined first
+    ghost associates: { (a b c : Self) → joined (joined a b) c ≡ joined a (joined b c) };
 }
 
 // An error that can be made from one of another type, as a function that is mapped over an output gives it.
@@ -128,7 +105,7 @@ impl<X: Drop> FromExternalError<X> for Error {
     ghost external = { λ s k _. record { input = s; code = k } };
 
     fn from_external_error(input: Span, kind: ErrorKind, _error: X) -> Error {
-        Error { input, code: kind }
+        Error::from_error_kind(input, kind)
     }
 }
 
@@ -141,7 +118,7 @@ impl fmt::Display for Error {
     }
 }
 
-// The same as a pair.
+// The same as a pair: nom has both, and an impl for one does not serve the other.
 impl ParseError for (Span, ErrorKind) {
     ghost made = { λ s k. (s, k) };
 
@@ -242,10 +219,6 @@ impl<X: Drop> FromExternalError<X> for Far {
     ghost external = { λ s k _. record { input = s; code = k; latest = None } };
 
     fn from_external_error(input: Span, kind: ErrorKind, _error: X) -> Far {
-        Far {
-            input,
-            code: kind,
-            latest: None,
-        }
+        Far::from_error_kind(input, kind)
     }
 }

@@ -7,17 +7,9 @@ use std::process::Abort;
 use text::{ByteText, Complete};
 
 fn error_of<O: Drop, E: ParseError>(checked: Checked<O, E>) -> Option<E> {
-    let Checked {
-        answer,
-        count: _,
-        peak: _,
-    } = checked;
-    match answer {
-        Ok(_done) => None,
-        Err(fault) => match fault {
-            Fault::Error(e) => Some(e),
-            _other => None,
-        },
+    match checked.answer {
+        Err(Fault::Error(e)) => Some(e),
+        _ => None,
     }
 }
 
@@ -57,15 +49,9 @@ const THREE_WAYS: [(&str, Option<(usize, ErrorKind)>, Option<(usize, ErrorKind)>
 #[test]
 fn nestings_give_equal_errors(rt: HostRuntime) {
     for (text, last, furthest) in THREE_WAYS {
-        let error = match three_ways::<Error>(&rt, text) {
-            Some(e) => Some((e.input.start, e.code)),
-            None => None,
-        };
+        let error = three_ways::<Error>(&rt, text).map(|e| (e.input.start, e.code));
         assert_eq!(rt; error, last, "{}", text);
-        let error = match three_ways::<Far>(&rt, text) {
-            Some(e) => Some((e.input.start, e.code)),
-            None => None,
-        };
+        let error = three_ways::<Far>(&rt, text).map(|e| (e.input.start, e.code));
         assert_eq!(rt; error, furthest, "{}", text);
     }
 }

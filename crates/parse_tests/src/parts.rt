@@ -5,9 +5,9 @@ ghost use Rattle.parse.specs.Run.{failure};
 ghost use Rattle.parse.specs.declared.error.ErrorKind.TheVariants.{Verify as VerifyKind};
 
 use demo::{Digit, Satisfy};
-use parse::{Checked, ErrorKind, Fault, Function, ParseError, Parser};
+use parse::{Done, ErrorKind, Fault, Function, ParseError, Parser, Stopped};
 use sink::Sink;
-use text::{Is, Manner, Span, Text};
+use text::{Input, Is, Manner};
 
 pub fn item(byte: u8) -> Satisfy<Is> {
     Satisfy {
@@ -23,12 +23,12 @@ pub fn digit() -> Satisfy<Digit> {
 #[derive(Clone, Copy)]
 pub struct Small;
 
-impl<T: Text> Function<T, u32> for Small {
+impl<T: Input> Function<T, u32> for Small {
     type Value = Result<u32, u32>;
 
     ghost value = { λ _ _ code. (if nat_le code 53 then Ok (code - 48) else Err code) };
 
-    fn call(&self, _text: &T, code: u32) -> Result<u32, u32> {
+    fn call(&self, _input: &T, code: u32) -> Result<u32, u32> {
         if code <= 53 {
             Ok(code.saturating_sub(48))
         } else {
@@ -41,12 +41,12 @@ impl<T: Text> Function<T, u32> for Small {
 #[derive(Clone, Copy)]
 pub struct Rising;
 
-impl<T: Text> Function<T, (u32, u32)> for Rising {
+impl<T: Input> Function<T, (u32, u32)> for Rising {
     type Value = Option<(u32, u32)>;
 
     ghost value = { λ _ _ codes. (if nat_le codes.0 codes.1 then Some codes else None) };
 
-    fn call(&self, _text: &T, codes: (u32, u32)) -> Option<(u32, u32)> {
+    fn call(&self, _input: &T, codes: (u32, u32)) -> Option<(u32, u32)> {
         if codes.0 <= codes.1 {
             Some(codes)
         } else {
@@ -59,12 +59,12 @@ impl<T: Text> Function<T, (u32, u32)> for Rising {
 #[derive(Clone, Copy)]
 pub struct Again;
 
-impl<T: Text> Function<T, u32> for Again {
+impl<T: Input> Function<T, u32> for Again {
     type Value = Satisfy<Is>;
 
     ghost value = { λ _ _ code. record { test = record { code = code } } };
 
-    fn call(&self, _text: &T, code: u32) -> Satisfy<Is> {
+    fn call(&self, _input: &T, code: u32) -> Satisfy<Is> {
         Satisfy { test: Is { code } }
     }
 }
@@ -73,26 +73,24 @@ impl<T: Text> Function<T, u32> for Again {
 #[derive(Clone, Copy)]
 pub struct Stop;
 
-impl<T: Text, E: ParseError> Parser<T, u32, E> for Stop {
+impl<T: Input, E: ParseError> Parser<T, u32, E> for Stop {
     type Output = u32;
 
-    ghost means = { λ _ _ s _. still (failure (E.ParseError.made s VerifyKind)) };
+    ghost means = { λ _ _ s _. still (failure (E.made s VerifyKind)) };
 
-    ghost suffix = { λ _ _ _ _ _ _. tt };
-
-    fn check<M: Manner>(&self, _text: &T, span: Span) -> Checked<u32, E> {
-        Checked::stopped(
-            Fault::Failure(E::from_error_kind(span, ErrorKind::Verify)),
-            0,
-        )
+    fn check<M: Manner>(&self, input: &T) -> Result<Done<T, u32>, Stopped<E>> {
+        let e = E::from_error_kind(input.span(), ErrorKind::Verify);
+        Err(Stopped::at_once(Fault::Failure(e)))
     }
 
     fn emit<M: Manner, S: Sink<Item = u32>>(
         &self,
-        _text: &T,
-        span: Span,
+        input: &T,
         _sink: &mut S,
-    ) -> Result<(Span, u32), Fault<E>> {
-        Err(Fault::Failure(E::from_error_kind(span, ErrorKind::Verify)))
+    ) -> Result<(T, u32), Fault<E>> {
+        let e = E::from_error_kind(input.span(), ErrorKind::Verify);
+        Err(Fault::Failure(e))
     }
+
+    ghost suffix = { λ _ _ _ _ _ _. tt };
 }

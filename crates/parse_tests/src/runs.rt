@@ -2,9 +2,9 @@
 use parse::{Checked, Emitted, Error, ErrorKind, Fault, Parser, emit_into};
 use std::fmt::Debug;
 use std::process::Abort;
-use text::{ByteText, Manner, Needed, Span, Text};
+use text::{ByteText, Input, Manner, Needed, Span};
 
-// What a parser answers.
+// What a parser answers, as a row of a table says it: in one word, where a `Result` of spans and faults would be a line.
 #[derive(Clone, Copy, PartialEq, Debug)]
 pub enum Outcome<O> {
     // where the remainder starts, and the output
@@ -23,18 +23,15 @@ pub type Row<O> = (&'static str, Outcome<O>, usize, &'static [u32]);
 // The most items of a row, and one place more.
 const PLACES: usize = 5;
 
+// A function: a `From` would need a ghost member that says all of it again.
 pub fn outcome_of<O>(answer: Result<(Span, O), Fault<Error>>) -> Outcome<O> {
     match answer {
         Ok((rest, output)) => Outcome::Done(rest.start, output),
-        Err(fault) => match fault {
-            Fault::Incomplete(needed) => match needed {
-                Needed::Size(size) => Outcome::Incomplete(size.get()),
-                Needed::Unknown => Outcome::Incomplete(0),
-            },
-            Fault::Error(e) => Outcome::Error(e.input.start, e.code),
-            Fault::Failure(e) => Outcome::Failure(e.input.start, e.code),
-            Fault::Full => Outcome::Full,
-        },
+        Err(Fault::Incomplete(Needed::Size(size))) => Outcome::Incomplete(size.get()),
+        Err(Fault::Incomplete(Needed::Unknown)) => Outcome::Incomplete(0),
+        Err(Fault::Error(e)) => Outcome::Error(e.input.start, e.code),
+        Err(Fault::Failure(e)) => Outcome::Failure(e.input.start, e.code),
+        Err(Fault::Full) => Outcome::Full,
     }
 }
 
@@ -46,7 +43,7 @@ fn check_items(rt: &impl Abort, places: &[u32], count: usize, items: &[u32]) {
 
 // `emit_into` answers what the row says, or `Full` where there are too few places.
 fn run_emit<
-    T: Text,
+    T: Input,
     M: Manner + Copy,
     O: PartialEq + Debug + Copy,
     P: Parser<T, u32, Error, Output = O>,
@@ -73,7 +70,7 @@ fn run_emit<
 
 // `check` tells what the row says, and `emit_into` does the same with any number of places.
 pub fn run<
-    T: Text,
+    T: Input,
     M: Manner + Copy,
     O: PartialEq + Debug + Copy,
     P: Parser<T, u32, Error, Output = O>,

@@ -3,10 +3,9 @@ ghost use Rattle.std.specs.Prelude.{◌≡◌};
 
 use crate::chained::{AndThen, FlatMap};
 use crate::dropping::{Preceded, Terminated};
-use crate::maps::{Map, MapOpt, MapRes};
+use crate::maps::{Map, MapOpt, MapRes, MapTry};
 use crate::pairs::And;
 use crate::ways::Or;
-use std::marker::PhantomData;
 
 // nom's methods of a parser. They are here for a value of any type; what is built is a parser where its parts are.
 pub trait ParserExt: Sized {
@@ -24,50 +23,32 @@ pub trait ParserExt: Sized {
         Or { f: self, g }
     }
 
-    fn map<G, A>(self, g: G) -> Map<Self, G, A>
+    fn map<G>(self, g: G) -> Map<Self, G>
         ensures f { result.f ≡ self }
         ensures g { result.g ≡ g }
     {
-        Map {
-            f: self,
-            g,
-            argument: PhantomData,
-        }
+        Map { f: self, g }
     }
 
-    fn map_res<G, A, X>(self, g: G) -> MapRes<Self, G, A, X>
+    fn map_res<G>(self, g: G) -> MapRes<Self, G>
         ensures f { result.f ≡ self }
         ensures g { result.g ≡ g }
     {
-        MapRes {
-            f: self,
-            g,
-            argument: PhantomData,
-            refusal: PhantomData,
-        }
+        MapTry { f: self, g }
     }
 
-    fn map_opt<G, A>(self, g: G) -> MapOpt<Self, G, A>
+    fn map_opt<G>(self, g: G) -> MapOpt<Self, G>
         ensures f { result.f ≡ self }
         ensures g { result.g ≡ g }
     {
-        MapOpt {
-            f: self,
-            g,
-            argument: PhantomData,
-        }
+        MapTry { f: self, g }
     }
 
-    fn flat_map<G, A, P>(self, g: G) -> FlatMap<Self, G, A, P>
+    fn flat_map<G>(self, g: G) -> FlatMap<Self, G>
         ensures f { result.f ≡ self }
         ensures g { result.g ≡ g }
     {
-        FlatMap {
-            f: self,
-            g,
-            argument: PhantomData,
-            made: PhantomData,
-        }
+        FlatMap { f: self, g }
     }
 
     fn and_then<G>(self, g: G) -> AndThen<Self, G>
@@ -92,35 +73,29 @@ pub fn pair<F, G>(first: F, second: G) -> And<F, G>
 }
 
 // The second output.
-pub fn preceded<F, G, A>(first: F, second: G) -> Preceded<F, G, A>
+pub fn preceded<F, G>(first: F, second: G) -> Preceded<F, G>
     ensures f { result.f ≡ first }
     ensures g { result.g ≡ second }
 {
     Preceded {
         f: first,
         g: second,
-        dropped: PhantomData,
     }
 }
 
 // The first output.
-pub fn terminated<F, G, B>(first: F, second: G) -> Terminated<F, G, B>
+pub fn terminated<F, G>(first: F, second: G) -> Terminated<F, G>
     ensures f { result.f ≡ first }
     ensures g { result.g ≡ second }
 {
     Terminated {
         f: first,
         g: second,
-        dropped: PhantomData,
     }
 }
 
 // The output of the second of three.
-pub fn delimited<F, G, H, A, B>(
-    first: F,
-    second: G,
-    third: H,
-) -> Preceded<F, Terminated<G, H, B>, A>
+pub fn delimited<F, G, H>(first: F, second: G, third: H) -> Preceded<F, Terminated<G, H>>
     ensures first { result.f ≡ first }
     ensures second { result.g.f ≡ second }
     ensures third { result.g.g ≡ third }
@@ -129,7 +104,7 @@ pub fn delimited<F, G, H, A, B>(
 }
 
 // The outputs of the first and the last of three, as a pair.
-pub fn separated_pair<F, G, H, A>(first: F, separator: G, second: H) -> And<F, Preceded<G, H, A>>
+pub fn separated_pair<F, G, H>(first: F, separator: G, second: H) -> And<F, Preceded<G, H>>
     ensures first { result.f ≡ first }
     ensures separator { result.g.f ≡ separator }
     ensures second { result.g.g ≡ second }

@@ -3,150 +3,135 @@ ghost use Rattle.parse.specs.Algebra.{and_step, after, mapped};
 ghost use Rattle.parse.specs.Subspans.{after_inside, step_inside};
 ghost use Rattle.parse.specs.Suffixes.{step_suffix, after_suffix, mapped_suffix};
 
-use parse::{Checked, Fault, ParseError, Parser, Subspan, undo};
+use parse::{Done, Fault, ParseError, Parser, Stopped, Subspan, undo};
 use sink::Sink;
-use std::marker::PhantomData;
-use text::{Manner, Span, Text};
+use text::{Input, Manner};
 
 // Both parts, with the second's output. The first runs by check, so that its items are dropped.
 #[derive(Drop)]
-pub struct Preceded<F, G, A> {
+pub struct Preceded<F, G> {
     pub f: F,
     pub g: G,
-    pub dropped: PhantomData<A>,
 }
 
-impl<
-    T: Text,
-    I: Copy,
-    E: ParseError,
-    A: Drop,
-    F: Parser<T, I, E, Output = A>,
-    G: Parser<T, I, E>,
-> Parser<T, I, E> for Preceded<F, G, A> {
+impl<T: Input, I: Copy, E: ParseError, F: Parser<T, I, E>, G: Parser<T, I, E>> Parser<T, I, E>
+    for Preceded<F, G> {
     type Output = G::Output;
 
-    ghost means = { λ p cs s c. after (F.Parser.means p.f cs s c).outcome (λ r _. G.Parser.means p.g cs r c) };
+    ghost means = { λ p cs s c. after (F.means p.f cs s c).outcome (λ r _. G.means p.g cs r c) };
 
-    ghost suffix = { λ p cs s c k w. after_suffix cs s (F.Parser.means p.f cs s c).outcome (λ r _. G.Parser.means p.g cs r c) (F.Parser.suffix p.f cs s c k w) (λ r _ h. G.Parser.suffix p.g cs r c k h.within) };
-
-    fn check<M: Manner>(&self, text: &T, span: Span) -> Checked<G::Output, E> {
-        match self.f.check::<M>(text, span).answer {
-            Ok((rest, _a)) => self.g.check::<M>(text, rest),
-            Err(fault) => Checked::stopped(fault, 0),
-        }
+    fn check<M: Manner>(&self, input: &T) -> Result<Done<T, G::Output>, Stopped<E>> {
+        let first = self.f.check::<M>(input).map_err(Stopped::dropped)?;
+        self.g.check::<M>(&first.rest)
     }
 
     fn emit<M: Manner, S: Sink<Item = I>>(
         &self,
-        text: &T,
-        span: Span,
+        input: &T,
         sink: &mut S,
-    ) -> Result<(Span, G::Output), Fault<E>> {
-        let (rest, _a) = self.f.check::<M>(text, span).answer?;
-        self.g.emit::<M, S>(text, rest, sink)
+    ) -> Result<(T, G::Output), Fault<E>> {
+        let first = self.f.check::<M>(input)?;
+        self.g.emit::<M, S>(&first.rest, sink)
     }
+
+    ghost suffix = { λ p cs s c k w. after_suffix cs s
+        (F.means p.f cs s c).outcome
+        (λ r _. G.means p.g cs r c)
+        (F.suffix p.f cs s c k w)
+        (λ r _ h. G.suffix p.g cs r c k h.within) };
 }
 
-impl<
-    T: Text,
-    I: Copy,
-    E: ParseError,
-    A: Drop,
-    F: Parser<T, I, E, Output = A>,
-    G: Subspan<T, I, E>,
-> Subspan<T, I, E> for Preceded<F, G, A> {
-    ghost cuts = { λ p cs s c. after (F.Parser.means p.f cs s c).outcome (λ r _. G.Subspan.cuts p.g cs r c) };
+impl<T: Input, I: Copy, E: ParseError, F: Parser<T, I, E>, G: Subspan<T, I, E>> Subspan<T, I, E>
+    for Preceded<F, G> {
+    ghost cuts = { λ p cs s c. after (F.means p.f cs s c).outcome (λ r _. G.cuts p.g cs r c) };
 
-    ghost inside = { λ p cs s c k w. after_inside cs s (F.Parser.means p.f cs s c).outcome (λ r _. G.Subspan.cuts p.g cs r c) (F.Parser.suffix p.f cs s c k w) (λ r _ h. G.Subspan.inside p.g cs r c k h.within) };
-
-    fn cut<M: Manner>(&self, text: &T, span: Span) -> Result<(Span, Span), Fault<E>> {
-        let (rest, _a) = self.f.check::<M>(text, span).answer?;
-        self.g.cut::<M>(text, rest)
+    fn cut<M: Manner>(&self, input: &T) -> Result<(T, T), Fault<E>> {
+        let first = self.f.check::<M>(input)?;
+        self.g.cut::<M>(&first.rest)
     }
+
+    ghost inside = { λ p cs s c k w. after_inside cs s
+        (F.means p.f cs s c).outcome
+        (λ r _. G.cuts p.g cs r c)
+        (F.suffix p.f cs s c k w)
+        (λ r _ h. G.inside p.g cs r c k h.within) };
 }
 
 // Both parts, with the first's output. The second runs by check, so that its items are dropped.
 #[derive(Drop)]
-pub struct Terminated<F, G, B> {
+pub struct Terminated<F, G> {
     pub f: F,
     pub g: G,
-    pub dropped: PhantomData<B>,
 }
 
-impl<
-    T: Text,
-    I: Copy,
-    E: ParseError,
-    B: Drop,
-    F: Parser<T, I, E>,
-    G: Parser<T, I, E, Output = B>,
-> Parser<T, I, E> for Terminated<F, G, B> {
+impl<T: Input, I: Copy, E: ParseError, F: Parser<T, I, E>, G: Parser<T, I, E>> Parser<T, I, E>
+    for Terminated<F, G> {
     type Output = F::Output;
 
-    ghost means = { λ p cs s c. and_step (F.Parser.means p.f cs s c) (λ r a. mapped (λ _. a) (G.Parser.means p.g cs r c).outcome) };
+    ghost means = { λ p cs s c. and_step
+        (F.means p.f cs s c)
+        (λ r a. mapped (λ _. a) (G.means p.g cs r c).outcome) };
 
-    ghost suffix = { λ p cs s c k w. step_suffix cs s (F.Parser.means p.f cs s c) (λ r a. mapped (λ _. a) (G.Parser.means p.g cs r c).outcome) (F.Parser.suffix p.f cs s c k w) (λ r a h. mapped_suffix cs r (λ _. a) (G.Parser.means p.g cs r c).outcome (G.Parser.suffix p.g cs r c k h.within)) };
-
-    fn check<M: Manner>(&self, text: &T, span: Span) -> Checked<F::Output, E> {
-        let Checked {
-            answer,
-            count,
+    fn check<M: Manner>(&self, input: &T) -> Result<Done<T, F::Output>, Stopped<E>> {
+        let first = self.f.check::<M>(input)?;
+        let peak = first.peak;
+        let second = self
+            .g
+            .check::<M>(&first.rest)
+            .map_err(|stopped| stopped.at(peak))?;
+        Ok(Done {
+            rest: second.rest,
+            output: first.output,
+            count: first.count,
             peak,
-        } = self.f.check::<M>(text, span);
-        let (rest, a) = match answer {
-            Ok(first) => first,
-            Err(fault) => return Checked::stopped(fault, peak),
-        };
-        match self.g.check::<M>(text, rest).answer {
-            Ok((rest, _b)) => Checked {
-                answer: Ok((rest, a)),
-                count,
-                peak,
-            },
-            Err(fault) => Checked::stopped(fault, peak),
-        }
+        })
     }
 
     fn emit<M: Manner, S: Sink<Item = I>>(
         &self,
-        text: &T,
-        span: Span,
+        input: &T,
         sink: &mut S,
-    ) -> Result<(Span, F::Output), Fault<E>> {
+    ) -> Result<(T, F::Output), Fault<E>> {
         let mark = sink.mark();
-        let (rest, a) = match self.f.emit::<M, S>(text, span, sink) {
+        let (rest, a) = match self.f.emit::<M, S>(input, sink) {
             Ok(first) => first,
+            // no `?`: the mark has to be spent on this way out too
             Err(fault) => {
                 sink.keep(mark);
                 return Err(fault);
             }
         };
-        match self.g.check::<M>(text, rest).answer {
-            Ok((rest, _b)) => {
+        match self.g.check::<M>(&rest) {
+            Ok(second) => {
                 sink.keep(mark);
-                Ok((rest, a))
+                Ok((second.rest, a))
             }
-            Err(fault) => undo(sink, mark, fault),
+            Err(stopped) => undo(sink, mark, stopped.fault),
         }
     }
+
+    ghost suffix = { λ p cs s c k w. step_suffix cs s
+        (F.means p.f cs s c)
+        (λ r a. mapped (λ _. a) (G.means p.g cs r c).outcome)
+        (F.suffix p.f cs s c k w)
+        (λ r a h. mapped_suffix cs r (λ _. a) (G.means p.g cs r c).outcome (G.suffix p.g cs r c k h.within)) };
 }
 
-impl<
-    T: Text,
-    I: Copy,
-    E: ParseError,
-    B: Drop,
-    F: Subspan<T, I, E>,
-    G: Parser<T, I, E, Output = B>,
-> Subspan<T, I, E> for Terminated<F, G, B> {
-    ghost cuts = { λ p cs s c. and_step (F.Subspan.cuts p.f cs s c) (λ r u. mapped (λ _. u) (G.Parser.means p.g cs r c).outcome) };
+impl<T: Input, I: Copy, E: ParseError, F: Subspan<T, I, E>, G: Parser<T, I, E>> Subspan<T, I, E>
+    for Terminated<F, G> {
+    ghost cuts = { λ p cs s c. and_step
+        (F.cuts p.f cs s c)
+        (λ r u. mapped (λ _. u) (G.means p.g cs r c).outcome) };
 
-    ghost inside = { λ p cs s c k w. step_inside cs s (F.Subspan.cuts p.f cs s c) (λ r. (G.Parser.means p.g cs r c).outcome) (F.Subspan.inside p.f cs s c k w) (λ r h. G.Parser.suffix p.g cs r c k h.within) };
-
-    fn cut<M: Manner>(&self, text: &T, span: Span) -> Result<(Span, Span), Fault<E>> {
-        let (rest, inner) = self.f.cut::<M>(text, span)?;
-        let (rest, _b) = self.g.check::<M>(text, rest).answer?;
-        Ok((rest, inner))
+    fn cut<M: Manner>(&self, input: &T) -> Result<(T, T), Fault<E>> {
+        let (rest, inner) = self.f.cut::<M>(input)?;
+        let second = self.g.check::<M>(&rest)?;
+        Ok((second.rest, inner))
     }
+
+    ghost inside = { λ p cs s c k w. step_inside cs s
+        (F.cuts p.f cs s c)
+        (λ r. (G.means p.g cs r c).outcome)
+        (F.inside p.f cs s c k w)
+        (λ r h. G.suffix p.g cs r c k h.within) };
 }

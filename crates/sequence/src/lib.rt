@@ -7,9 +7,6 @@
 //
 // Faults pass up by `?` wherever no mark is open. A combinator that has to undo its first part takes a mark beside the
 // sink, and ends it by `keep` or by `cut_back`.
-//
-// A type parameter that only a `PhantomData` holds is the output of a part that does not show in the combinator's own
-// output; the functions of `build` leave it to be inferred.
 #![tactic(auto)]
 
 pub mod build;
@@ -17,6 +14,7 @@ pub mod chained;
 pub mod dropping;
 pub mod maps;
 pub mod pairs;
+pub mod settle;
 pub mod ways;
 
 pub use build::{ParserExt, delimited, pair, preceded, separated_pair, terminated};

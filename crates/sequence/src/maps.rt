@@ -1,207 +1,123 @@
 // A function on the output: one that always gives a value, or one that may refuse.
-ghost use Rattle.parse.specs.declared.error.ErrorKind.TheVariants.{MapRes as MapResKind, MapOpt as MapOptKind};
 ghost use Rattle.parse.specs.Algebra.{and_step, map_run};
 ghost use Rattle.parse.specs.Suffixes.{step_suffix, map_suffix};
-ghost use Rattle.sequence.specs.Refusing.{resulted, valued, resulted_suffix, valued_suffix};
+ghost use Rattle.sequence.specs.Refusing.{settled_run, settled_suffix};
 
-use parse::{Checked, ErrorKind, Fault, FromExternalError, Function, ParseError, Parser, undo};
+use crate::settle::Settle;
+use parse::{Done, Fault, Function, ParseError, Parser, Stopped, undo};
 use sink::Sink;
-use std::marker::PhantomData;
-use text::{Manner, Span, Text};
+use text::{Input, Manner};
 
 // The function's value of the output.
 #[derive(Drop)]
-pub struct Map<F, G, A> {
+pub struct Map<F, G> {
     pub f: F,
     pub g: G,
-    pub argument: PhantomData<A>,
 }
 
-impl<
-    T: Text,
-    I: Copy,
-    E: ParseError,
-    A: Drop,
-    F: Parser<T, I, E, Output = A>,
-    G: Function<T, A>,
-> Parser<T, I, E> for Map<F, G, A> {
+impl<T: Input, I: Copy, E: ParseError, F: Parser<T, I, E>, G: Function<T, F::Output>> Parser<
+    T,
+    I,
+    E,
+> for Map<F, G> {
     type Output = G::Value;
 
-    ghost means = { λ p cs s c. map_run (G.Function.value p.g cs) (F.Parser.means p.f cs s c) };
+    ghost means = { λ p cs s c. map_run (G.value p.g cs) (F.means p.f cs s c) };
 
-    ghost suffix = { λ p cs s c k w. map_suffix cs s (G.Function.value p.g cs) (F.Parser.means p.f cs s c) (F.Parser.suffix p.f cs s c k w) };
-
-    fn check<M: Manner>(&self, text: &T, span: Span) -> Checked<G::Value, E> {
-        let Checked {
-            answer,
-            count,
-            peak,
-        } = self.f.check::<M>(text, span);
-        match answer {
-            Ok((rest, a)) => Checked {
-                answer: Ok((rest, self.g.call(text, a))),
-                count,
-                peak,
-            },
-            Err(fault) => Checked::stopped(fault, peak),
-        }
+    fn check<M: Manner>(&self, input: &T) -> Result<Done<T, G::Value>, Stopped<E>> {
+        let first = self.f.check::<M>(input)?;
+        Ok(Done {
+            rest: first.rest,
+            output: self.g.call(input, first.output),
+            count: first.count,
+            peak: first.peak,
+        })
     }
 
     fn emit<M: Manner, S: Sink<Item = I>>(
         &self,
-        text: &T,
-        span: Span,
+        input: &T,
         sink: &mut S,
-    ) -> Result<(Span, G::Value), Fault<E>> {
-        let (rest, a) = self.f.emit::<M, S>(text, span, sink)?;
-        Ok((rest, self.g.call(text, a)))
+    ) -> Result<(T, G::Value), Fault<E>> {
+        let (rest, a) = self.f.emit::<M, S>(input, sink)?;
+        Ok((rest, self.g.call(input, a)))
     }
+
+    ghost suffix = { λ p cs s c k w. map_suffix cs s
+        (G.value p.g cs)
+        (F.means p.f cs s c)
+        (F.suffix p.f cs s c k w) };
 }
 
-// The function's value of the output, or `Error` of its kind at entry, made of the function's own error.
+// The value of a function that may refuse the output, or `Error` at entry, made of its refusal.
 #[derive(Drop)]
-pub struct MapRes<F, G, A, X> {
+pub struct MapTry<F, G> {
     pub f: F,
     pub g: G,
-    pub argument: PhantomData<A>,
-    pub refusal: PhantomData<X>,
 }
 
+// nom's two names for it. The function gives a `Result`; the error is of the kind MapRes, and made of the function's own.
+pub type MapRes<F, G> = MapTry<F, G>;
+
+// The function gives an `Option`; the error is of the kind MapOpt.
+pub type MapOpt<F, G> = MapTry<F, G>;
+
 impl<
-    T: Text,
+    T: Input,
     I: Copy,
-    X: Drop,
-    E: ParseError + FromExternalError<X>,
-    A: Drop,
-    B: Drop,
-    F: Parser<T, I, E, Output = A>,
-    G: Function<T, A, Value = Result<B, X>>,
-> Parser<T, I, E> for MapRes<F, G, A, X> {
-    type Output = B;
+    E: ParseError,
+    V: Settle<E> + Drop,
+    F: Parser<T, I, E>,
+    G: Function<T, F::Output, Value = V>,
+> Parser<T, I, E> for MapTry<F, G> {
+    type Output = V::Value;
 
-    ghost means = { λ p cs s c. and_step (F.Parser.means p.f cs s c) (λ r a. resulted (E.FromExternalError.external s MapResKind) r (G.Function.value p.g cs a)) };
+    ghost means = { λ p cs s c. and_step
+        (F.means p.f cs s c)
+        (λ r a. settled_run r (V.settled s (G.value p.g cs a))) };
 
-    ghost suffix = { λ p cs s c k w. step_suffix cs s (F.Parser.means p.f cs s c) (λ r a. resulted (E.FromExternalError.external s MapResKind) r (G.Function.value p.g cs a)) (F.Parser.suffix p.f cs s c k w) (λ r a h. resulted_suffix I cs r h.within (E.FromExternalError.external s MapResKind) (G.Function.value p.g cs a)) };
-
-    fn check<M: Manner>(&self, text: &T, span: Span) -> Checked<B, E> {
-        let Checked {
-            answer,
-            count,
-            peak,
-        } = self.f.check::<M>(text, span);
-        let (rest, a) = match answer {
-            Ok(first) => first,
-            Err(fault) => return Checked::stopped(fault, peak),
-        };
-        match self.g.call(text, a) {
-            Ok(b) => Checked {
-                answer: Ok((rest, b)),
-                count,
-                peak,
-            },
-            Err(x) => Checked::stopped(
-                Fault::Error(E::from_external_error(span, ErrorKind::MapRes, x)),
-                peak,
-            ),
+    fn check<M: Manner>(&self, input: &T) -> Result<Done<T, V::Value>, Stopped<E>> {
+        let first = self.f.check::<M>(input)?;
+        match self.g.call(input, first.output).settle(input.span()) {
+            Ok(b) => Ok(Done {
+                rest: first.rest,
+                output: b,
+                count: first.count,
+                peak: first.peak,
+            }),
+            Err(e) => Err(Stopped {
+                fault: Fault::Error(e),
+                peak: first.peak,
+            }),
         }
     }
 
     fn emit<M: Manner, S: Sink<Item = I>>(
         &self,
-        text: &T,
-        span: Span,
+        input: &T,
         sink: &mut S,
-    ) -> Result<(Span, B), Fault<E>> {
+    ) -> Result<(T, V::Value), Fault<E>> {
         let mark = sink.mark();
-        let (rest, a) = match self.f.emit::<M, S>(text, span, sink) {
+        let (rest, a) = match self.f.emit::<M, S>(input, sink) {
             Ok(first) => first,
+            // no `?`: the mark has to be spent on this way out too
             Err(fault) => {
                 sink.keep(mark);
                 return Err(fault);
             }
         };
-        match self.g.call(text, a) {
+        match self.g.call(input, a).settle(input.span()) {
             Ok(b) => {
                 sink.keep(mark);
                 Ok((rest, b))
             }
-            Err(x) => {
-                let e = E::from_external_error(span, ErrorKind::MapRes, x);
-                undo(sink, mark, Fault::Error(e))
-            }
-        }
-    }
-}
-
-// The function's value of the output, or `Error` of its kind at entry where there is none.
-#[derive(Drop)]
-pub struct MapOpt<F, G, A> {
-    pub f: F,
-    pub g: G,
-    pub argument: PhantomData<A>,
-}
-
-impl<
-    T: Text,
-    I: Copy,
-    E: ParseError,
-    A: Drop,
-    B: Drop,
-    F: Parser<T, I, E, Output = A>,
-    G: Function<T, A, Value = Option<B>>,
-> Parser<T, I, E> for MapOpt<F, G, A> {
-    type Output = B;
-
-    ghost means = { λ p cs s c. and_step (F.Parser.means p.f cs s c) (λ r a. valued (E.ParseError.made s MapOptKind) r (G.Function.value p.g cs a)) };
-
-    ghost suffix = { λ p cs s c k w. step_suffix cs s (F.Parser.means p.f cs s c) (λ r a. valued (E.ParseError.made s MapOptKind) r (G.Function.value p.g cs a)) (F.Parser.suffix p.f cs s c k w) (λ r a h. valued_suffix I cs r h.within (E.ParseError.made s MapOptKind) (G.Function.value p.g cs a)) };
-
-    fn check<M: Manner>(&self, text: &T, span: Span) -> Checked<B, E> {
-        let Checked {
-            answer,
-            count,
-            peak,
-        } = self.f.check::<M>(text, span);
-        let (rest, a) = match answer {
-            Ok(first) => first,
-            Err(fault) => return Checked::stopped(fault, peak),
-        };
-        match self.g.call(text, a) {
-            Some(b) => Checked {
-                answer: Ok((rest, b)),
-                count,
-                peak,
-            },
-            None => Checked::stopped(
-                Fault::Error(E::from_error_kind(span, ErrorKind::MapOpt)),
-                peak,
-            ),
+            Err(e) => undo(sink, mark, Fault::Error(e)),
         }
     }
 
-    fn emit<M: Manner, S: Sink<Item = I>>(
-        &self,
-        text: &T,
-        span: Span,
-        sink: &mut S,
-    ) -> Result<(Span, B), Fault<E>> {
-        let mark = sink.mark();
-        let (rest, a) = match self.f.emit::<M, S>(text, span, sink) {
-            Ok(first) => first,
-            Err(fault) => {
-                sink.keep(mark);
-                return Err(fault);
-            }
-        };
-        match self.g.call(text, a) {
-            Some(b) => {
-                sink.keep(mark);
-                Ok((rest, b))
-            }
-            None => {
-                let e = E::from_error_kind(span, ErrorKind::MapOpt);
-                undo(sink, mark, Fault::Error(e))
-            }
-        }
-    }
+    ghost suffix = { λ p cs s c k w. step_suffix cs s
+        (F.means p.f cs s c)
+        (λ r a. settled_run r (V.settled s (G.value p.g cs a)))
+        (F.suffix p.f cs s c k w)
+        (λ r a h. settled_suffix I cs r h.within (V.settled s (G.value p.g cs a))) };
 }

@@ -7,5 +7,7 @@ use Rattle.sink.specs.Bounds.{Bounded}
 abbrev pub units : ℕ → List (Unit {0})
 units len = replicate len tt
 
-pub units_bounds : (len places : ℕ) → len ≤ places → places ≤ 65536 → Bounded (units len) places
+-- what a counter keeps
+pub units_bounds : (len places : ℕ)
+    → len ≤ places → places ≤ 65536 → Bounded (units len) places
 units_bounds len places within few = record { within = rw length-replicate within; few = few }

@@ -4,7 +4,7 @@ ghost use Rattle.std.proofs.Math.Option.{none};
 ghost use Rattle.sink.specs.Answers.{making};
 ghost use Rattle.sink.specs.Counts.{units, units_bounds};
 
-use super::{Refusal, SINK_LIMIT, Sink};
+use super::{Refusal, SINK_LIMIT, Sink, check_mark, check_places};
 
 // How many items there are, and how many there can be.
 #[derive(Drop)]
@@ -20,11 +20,7 @@ impl Counter {
     pub fn check(places: usize) -> Result<(), Refusal>
         ensures { result ≡ making places }
     {
-        if places > SINK_LIMIT {
-            Err(Refusal::TooManyPlaces(places))
-        } else {
-            Ok(())
-        }
+        check_places(places)
     }
 
     // An empty counter of this capacity, or of 65,536 where it is more.
@@ -44,9 +40,7 @@ impl Sink for Counter {
 
     ghost list = { λ c. units c.len };
 
-    ghost cap = { λ c. c.places };
-
-    ghost lent = { λ _. none };
+    ghost store = { λ c. record { cap = c.places; lent = none } };
 
     ghost bounds = { λ c. units_bounds c.len c.places c.within c.few };
 
@@ -67,16 +61,15 @@ impl Sink for Counter {
     }
 
     fn read(&self, at: usize) -> Result<(), Refusal> {
-        if at >= self.len {
-            return Err(Refusal::PastList(at, self.len));
+        if at < self.len {
+            Ok(())
+        } else {
+            Err(Refusal::PastList(at, self.len))
         }
-        Ok(())
     }
 
     fn truncate(&mut self, len: usize) -> Result<(), Refusal> {
-        if len > self.len {
-            return Err(Refusal::MarkAboveList(len, self.len));
-        }
+        check_mark(len, self.len)?;
         self.len = len;
         Ok(())
     }

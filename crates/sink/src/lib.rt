@@ -5,11 +5,11 @@
 // is linear: it has to be spent, by `keep` or by `cut_back`, and only this module opens one.
 #![tactic(auto)]
 
-ghost use Rattle.std.specs.Prelude.{◌≡◌, ℕ, List, length, take as front};
-ghost use Rattle.std.specs.Borrow.{GName};
-ghost use Rattle.std.proofs.Math.Option.{Option};
-ghost use Rattle.sink.specs.Answers.{number_of, cutting, item_at, Pushes};
+ghost use Rattle.std.specs.Prelude.{◌≡◌, List, length, Some, take as front};
+ghost use Rattle.sink.specs.Answers.{number_of, making, cutting, item_at, Pushes};
 ghost use Rattle.sink.specs.Bounds.{Bounded};
+ghost use Rattle.sink.specs.Store.{Store};
+ghost use Rattle.sink.specs.Words.{words_of};
 
 use std::fmt;
 
@@ -21,6 +21,28 @@ pub use sheet::Sheet;
 
 // The most places that a sink may have.
 pub const SINK_LIMIT: usize = 65_536;
+
+// Whether a sink can have this many places: the check of both kinds of sink.
+fn check_places(places: usize) -> Result<(), Refusal>
+    ensures { result ≡ making places }
+{
+    if places > SINK_LIMIT {
+        Err(Refusal::TooManyPlaces(places))
+    } else {
+        Ok(())
+    }
+}
+
+// Whether a list of this length can be cut back to a mark: what both kinds of sink ask before they cut back.
+fn check_mark(mark: usize, len: usize) -> Result<(), Refusal>
+    ensures { result ≡ cutting len mark }
+{
+    if mark > len {
+        Err(Refusal::MarkAboveList(mark, len))
+    } else {
+        Ok(())
+    }
+}
 
 // Why a sink turns a call away. The sink is then as it was.
 #[derive(Clone, Copy, PartialEq, Eq, Debug)]
@@ -36,7 +58,8 @@ pub enum Refusal {
 }
 
 impl Refusal {
-    // Its number in the table of answers (docs/FORMAT.md).
+    // Its number in the table of answers (docs/FORMAT.md), to be printed. A variant that tells values cannot be cast, and
+    // a `From` for `u32` would be this match under a name that does not say which number.
     pub fn number(&self) -> u32
         ensures { result ≡ number_of self.now }
     {
@@ -50,11 +73,13 @@ impl Refusal {
 }
 
 impl fmt::Display for Refusal {
+    ghost output = { λ r. Some (words_of r) };
+
     fn fmt<W: fmt::Write>(&self, f: &mut fmt::Formatter<W>) -> fmt::Result {
         match self {
             Refusal::TooManyPlaces(places) => write!(
                 f,
-                "the sink has {places} places, and a sink may have at most 65536"
+                "the sink has {places} places, and a sink may have at most {SINK_LIMIT}"
             ),
             Refusal::Full => write!(f, "the sink is full"),
             Refusal::MarkAboveList(mark, len) => write!(
@@ -87,27 +112,23 @@ impl Mark {
 pub trait Sink {
     type Item: Copy;
 
-    // the sink's meaning: its items, and the most that it can hold
+    // the sink's meaning: its items, and what it stores them into
     ghost list: { Self → List Self.Item };
 
-    ghost cap: { Self → ℕ };
-    // the name of the slice that it writes to, if it was lent one
-    ghost lent: { Self → Option GName };
-    // what each implementation proves of them
-    ghost bounds: { (s : Self) → Bounded (list s) (cap s) };
+    ghost store: { Self → Store };
 
     // How many items the list has.
     fn len(&self) -> usize
         ensures { result ≡ length (list self.now) };
 
+    // How many items the list can have.
     fn capacity(&self) -> usize
-        ensures { result ≡ cap self.now };
+        ensures { result ≡ (store self.now).cap };
 
     // Appends the item, or refuses it exactly where the list has as many items as the sink can hold.
     fn push(&mut self, item: Self::Item) -> Result<(), Refusal>
-        ensures cap { cap self.new ≡ cap self.old }
-        ensures lent { lent self.new ≡ lent self.old }
-        ensures pushes { Pushes (cap self.old) (list self.old) item result (list self.new) };
+        ensures store { store self.new ≡ store self.old }
+        ensures pushes { Pushes (store self.old).cap (list self.old) item result (list self.new) };
 
     // The item at a place of the list.
     fn read(&self, at: usize) -> Result<Self::Item, Refusal>
@@ -115,8 +136,7 @@ pub trait Sink {
 
     // What an implementation does at `cut_back`: leaves the first `len` items, or refuses where there are fewer.
     fn truncate(&mut self, len: usize) -> Result<(), Refusal>
-        ensures cap { cap self.new ≡ cap self.old }
-        ensures lent { lent self.new ≡ lent self.old }
+        ensures store { store self.new ≡ store self.old }
         ensures answer { result ≡ cutting (length (list self.old)) len }
         ensures list { list self.new ≡ front len (list self.old) };
 
@@ -135,12 +155,14 @@ pub trait Sink {
     // Spends a mark. Leaves that many items from the list's start, and frees the places of the rest. A mark above the
     // list is refused; the list is then as it was, since all of it lies below the mark.
     fn cut_back(&mut self, mark: Mark) -> Result<(), Refusal>
-        ensures cap { cap self.new ≡ cap self.old }
-        ensures lent { lent self.new ≡ lent self.old }
+        ensures store { store self.new ≡ store self.old }
         ensures answer { result ≡ cutting (length (list self.old)) mark.len }
         ensures list { list self.new ≡ front mark.len (list self.old) }
     {
         let Mark { len } = mark;
         self.truncate(len)
     }
+
+    // A law, which each implementation proves: the list is within the capacity, and that within the limit.
+    ghost bounds: { (s : Self) → Bounded (list s) (store s).cap };
 }

@@ -2,18 +2,19 @@
 //
 // The items stand in the slice's first places. A sheet uses at most 65,536 places, however many the slice has, so every
 // slice makes one, and `check` tells whether all of it is used.
-ghost use Rattle.std.specs.Prelude.{◌≡◌, ◌+◌, ◌<◌, [], length, Ok};
+ghost use Rattle.std.specs.Prelude.{◌≡◌, ◌≤◌, [], length};
 ghost use Rattle.std.proofs.Math.Option.{some};
-ghost use Rattle.sink.specs.Answers.{making, item_at, Pushes};
+ghost use Rattle.sink.specs.Answers.{making, item_at};
 ghost use Rattle.sink.specs.Sheets.{sheet_list, sheet_cap, sheet_bounds};
 
-use super::{Refusal, SINK_LIMIT, Sink};
+use super::{Refusal, SINK_LIMIT, Sink, check_mark, check_places};
 
-// The places, and how many items stand in the first of them.
+// The places, and how many items stand in the first of them. The places are lent, since nothing here allocates.
 #[derive(Drop)]
 pub struct Sheet<'a, I> {
     places: &'a mut [I],
     len: usize,
+    ghost within: { len ≤ sheet_cap places.now },
 }
 
 impl<'a, I> Sheet<'a, I> {
@@ -21,11 +22,7 @@ impl<'a, I> Sheet<'a, I> {
     pub fn check(places: &[I]) -> Result<(), Refusal>
         ensures { result ≡ making (length places.now) }
     {
-        if places.len() > SINK_LIMIT {
-            Err(Refusal::TooManyPlaces(places.len()))
-        } else {
-            Ok(())
-        }
+        check_places(places.len())
     }
 
     // An empty sheet over the places, of which it uses the first 65,536. It writes to the slice that it is handed.
@@ -39,23 +36,14 @@ impl<'a, I> Sheet<'a, I> {
     }
 }
 
-// Writes an item into the place behind the first `len` items.
-fn put<I: Copy>(places: &mut [I], len: usize, item: I)
-    requires { len < sheet_cap places.old }
-    ensures cap { sheet_cap places.new ≡ sheet_cap places.old }
-    ensures pushes { Pushes (sheet_cap places.old) (sheet_list places.old len) item (Ok tt) (sheet_list places.new (len + 1)) }
-{
-    places[len] = item;
-}
-
 // The item at a place of a list.
 fn picked<I: Copy>(items: &[I], at: usize) -> Result<I, Refusal>
     ensures { result ≡ item_at items.now at }
 {
-    if at >= items.len() {
-        return Err(Refusal::PastList(at, items.len()));
-    }
-    Ok(items[at])
+    items
+        .get(at)
+        .copied()
+        .ok_or(Refusal::PastList(at, items.len()))
 }
 
 impl<'a, I: Copy> Sink for Sheet<'a, I> {
@@ -63,14 +51,15 @@ impl<'a, I: Copy> Sink for Sheet<'a, I> {
 
     ghost list = { λ s. sheet_list s.places.now s.len };
 
-    ghost cap = { λ s. sheet_cap s.places.now };
-
-    ghost lent = { λ s. some s.places.ghost_name };
+    ghost store = { λ s. record {
+      cap = sheet_cap s.places.now;
+      lent = some s.places.ghost_name;
+    } };
 
     ghost bounds = { λ s. sheet_bounds s.places.now s.len };
 
     fn len(&self) -> usize {
-        self.len.min(self.capacity())
+        self.len
     }
 
     fn capacity(&self) -> usize {
@@ -78,12 +67,11 @@ impl<'a, I: Copy> Sink for Sheet<'a, I> {
     }
 
     fn push(&mut self, item: I) -> Result<(), Refusal> {
-        let len = self.len;
-        if len >= self.capacity() {
+        if self.len >= self.capacity() {
             return Err(Refusal::Full);
         }
-        put(self.places, len, item);
-        self.len = len + 1;
+        self.places[self.len] = item;
+        self.len += 1;
         Ok(())
     }
 
@@ -92,10 +80,7 @@ impl<'a, I: Copy> Sink for Sheet<'a, I> {
     }
 
     fn truncate(&mut self, len: usize) -> Result<(), Refusal> {
-        let had = self.len();
-        if len > had {
-            return Err(Refusal::MarkAboveList(len, had));
-        }
+        check_mark(len, self.len)?;
         self.len = len;
         Ok(())
     }
@@ -106,16 +91,14 @@ impl<'a, I: Copy> Sheet<'a, I> {
     pub fn items(&self) -> &[I]
         ensures { result.now ≡ sheet_list self.now.places.now self.now.len }
     {
-        let len = self.len();
-        &self.places[..len]
+        &self.places[..self.len]
     }
 
     // Ends the sheet, and gives its list.
     pub fn into_items(self) -> &'a mut [I]
         ensures { result.now ≡ sheet_list self.entry.places.now self.entry.len }
     {
-        let len = self.len();
-        let Sheet { places, len: _ } = self;
+        let Sheet { places, len } = self;
         &mut places[..len]
     }
 }

@@ -1,8 +1,9 @@
 -- Spans of a list of items: one step on. Assumes nothing.
-use Rattle.std.proofs.Common.{◌≡◌, ℕ, zero, suc, ◌+◌, ◌-◌, ◌<◌, ◌≤◌, true, false, ◌&&◌, leb, List, [], ◌∷◌, Some, None, sym, refl, ap, ◌∙◌, subst, ⊎_elim, zero-add, arith}
+use Rattle.std.proofs.Common.{◌≡◌, ℕ, zero, suc, ◌+◌, ◌-◌, ◌<◌, ◌≤◌, true, false, ◌&&◌, leb, List, [], ◌∷◌, length, Some, None, sym, refl, ap, ◌∙◌, subst, ⊎_elim, zero-add, arith}
 use native.Mathlib.Nat.{sub-zero, sub_self}
 use Rattle.std.proofs.lemmas.Bool.{cases_lt, and_parts, and_from, leb-true, le-leb, false≢true}
-use Rattle.text.specs.Cells.{Cell, total, Solid, boundary, after, before, cut, Within, first}
+use Rattle.text.specs.declared.Span.{Span}
+use Rattle.text.specs.Cells.{Cell, total, Solid, boundary, after, before, cut, part, Within, first, Lawful}
 
 pub boundary-step : (c : Cell) (cs : List Cell) (n : ℕ) → 0 < n → boundary (c ∷ cs) n ≡ (leb c.1 n && boundary cs (n - c.1))
 boundary-step c cs zero h = absurd (omega arith)
@@ -146,3 +147,20 @@ whole_cut cs d = let z : total cs - 0 ≡ total cs = omega arith in ap (λ n. be
 
 pub whole_within : (cs : List Cell) → Solid cs → Within cs 0 (total cs)
 whole_within cs d = (omega arith, refl, boundary-total cs d)
+
+-- a span of a text ends where the text is still short
+pub place_few : (cs : List Cell) (bs : List ℕ) (s : Span) → Lawful cs bs → Within cs s.start s.end → s.end ≤ 1048576
+place_few cs bs s law w =
+    let total = total-after cs s.end w.2 in
+    omega (arith, law.whole, law.few)
+
+-- no item is empty, so there are no more of them than bytes
+length-before : (cs : List Cell) (n : ℕ) → Solid cs → length (before n cs) ≤ n
+length-before cs zero d = omega arith
+length-before [] (suc n) d = omega arith
+length-before (c ∷ cs) (suc n) d = let r = length-before cs (suc n - c.1) d.1 in let w = d.0 in omega arith
+
+pub part_few : (cs : List Cell) (bs : List ℕ) (s : Span) → Lawful cs bs → Within cs s.start s.end → length (part cs s) ≤ 1048576
+part_few cs bs s law w =
+    let few = place_few cs bs s law w in
+    let shorter = length-before (after s.start cs) (s.end - s.start) (solid-after cs s.start law.solid) in omega arith

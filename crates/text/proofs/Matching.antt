@@ -1,7 +1,7 @@
 -- Items against a tag's items, and the search for a tag. Assumes nothing.
-use Rattle.std.proofs.Common.{◌≡◌, ℕ, ◌+◌, ◌-◌, ◌<◌, ◌≤◌, true, false, cond, eqb, List, [], ◌∷◌, length, get_or, drop, Some, None, Option, sym, refl, ap, ◌∙◌, subst, ⊎_elim, add-zero, zero-add, arith}
-use Rattle.std.proofs.lemmas.Bool.{cases_lt, cases_Bool, and_parts, and_left, eq-eqb, ne_eqb, eqb-true, false≢true, cond-true, cond-false}
-use Rattle.std.proofs.lemmas.List.{drop_more, drop_all}
+use Rattle.std.proofs.Common.{◌≡◌, ℕ, ◌+◌, ◌-◌, ◌≤◌, Bool, true, false, ◌&&◌, cond, eqb, List, [], ◌∷◌, Some, None, Option, sym, refl, ap, ◌∙◌, subst, ⊎_elim, add-zero, arith}
+use Rattle.std.proofs.lemmas.Bool.{cases_lt, cases_eq, cases_Bool, and_parts, and_left, eq-eqb, ne_eqb, eqb-true, false≢true, cond-true, cond-false}
+use Rattle.std.specs.List.{starts_with}
 use Rattle.text.specs.declared.CompareResult.{CompareResult}
 use Rattle.text.specs.declared.CompareResult.TheVariants as compared
 use Rattle.text.specs.Cells.{Cell, total, Solid, cut, Within, first, singles}
@@ -20,20 +20,34 @@ pub matched_empty : (cs : List Cell) → matched cs [] ≡ compared.Ok
 matched_empty [] = refl
 matched_empty (c ∷ cs) = refl
 
-module _ (xs ys : List ℕ) (i : ℕ) where
-  pub bytes_on : i < length xs → i < length ys → get_or xs i 0 ≡ get_or ys i 0 → matched (singles (drop i xs)) (singles (drop i ys)) ≡ matched (singles (drop (i + 1) xs)) (singles (drop (i + 1) ys))
-  bytes_on h k e = rw (drop_more xs i 0 h, drop_more ys i 0 k)
-      (matched_more (get_or xs i 0) (get_or ys i 0) (singles (drop (i + 1) xs)) (singles (drop (i + 1) ys)) e)
+-- bytes that begin with a tag's bytes; that are a shorter prefix of them; and that are neither
+pub bytes_begin : (xs ts : List ℕ) → starts_with eqb xs ts ≡ true → compared.Ok ≡ matched (singles xs) (singles ts)
+bytes_begin xs [] h = sym (matched_empty (singles xs))
+bytes_begin [] (t ∷ ts) h = absurd (false≢true h)
+bytes_begin (x ∷ xs) (t ∷ ts) h =
+    let p = and_parts _ _ h in
+    bytes_begin xs ts p.1 ∙ sym (matched_more x t (singles xs) (singles ts) (sym (eqb-true t x p.0)))
 
-  pub bytes_apart : i < length xs → i < length ys → (get_or xs i 0 ≡ get_or ys i 0 → ⊥) → matched (singles (drop i xs)) (singles (drop i ys)) ≡ compared.Error
-  bytes_apart h k e = rw (drop_more xs i 0 h, drop_more ys i 0 k)
-      (matched_apart (get_or xs i 0) (get_or ys i 0) (singles (drop (i + 1) xs)) (singles (drop (i + 1) ys)) e)
+-- the second part of a conjunction that fails, where the first holds
+second_false : (a b : Bool) → a ≡ true → (a && b) ≡ false → b ≡ false
+second_false true b e h = h
+second_false false b e h = absurd (false≢true e)
 
-  pub bytes_short : length xs ≤ i → i < length ys → matched (singles (drop i xs)) (singles (drop i ys)) ≡ compared.Incomplete
-  bytes_short h k = rw (drop_all i xs h, drop_more ys i 0 k) refl
+pub bytes_short : (xs ts : List ℕ) → starts_with eqb xs ts ≡ false → starts_with eqb ts xs ≡ true → compared.Incomplete ≡ matched (singles xs) (singles ts)
+bytes_short xs [] h k = absurd (false≢true (sym h))
+bytes_short [] (t ∷ ts) h k = refl
+bytes_short (x ∷ xs) (t ∷ ts) h k =
+    let p = and_parts _ _ k in
+    let e = eqb-true x t p.0 in
+    bytes_short xs ts (second_false _ _ (eq-eqb t x (sym e)) h) p.1 ∙ sym (matched_more x t (singles xs) (singles ts) e)
 
-  pub bytes_begin : length ys ≤ i → matched (singles (drop i xs)) (singles (drop i ys)) ≡ compared.Ok
-  bytes_begin h = rw (drop_all i ys h) (matched_empty (singles (drop i xs)))
+pub bytes_apart : (xs ts : List ℕ) → starts_with eqb xs ts ≡ false → starts_with eqb ts xs ≡ false → compared.Error ≡ matched (singles xs) (singles ts)
+bytes_apart xs [] h k = absurd (false≢true (sym h))
+bytes_apart [] (t ∷ ts) h k = absurd (false≢true (sym k))
+bytes_apart (x ∷ xs) (t ∷ ts) h k = ⊎_elim
+    (λ e. bytes_apart xs ts (second_false _ _ (eq-eqb t x (sym e)) h) (second_false _ _ (eq-eqb x t e) k) ∙ sym (matched_more x t (singles xs) (singles ts) e))
+    (λ n. sym (matched_apart x t (singles xs) (singles ts) n))
+    (cases_eq x t)
 
 pub same_parts : (c d : Cell) → same c d ≡ true → (c.0 ≡ d.0) × (c.1 ≡ d.1)
 same_parts c d h = let p = and_parts _ _ h in (eqb-true _ _ p.0, eqb-true _ _ p.1)
@@ -49,6 +63,11 @@ begins_ok : (r : CompareResult) → begins r ≡ true → r ≡ compared.Ok
 begins_ok compared.Ok b = refl
 begins_ok compared.Incomplete b = absurd (false≢true b)
 begins_ok compared.Error b = absurd (false≢true b)
+
+pub begins_not : (r : CompareResult) → (r ≡ compared.Ok → ⊥) → false ≡ begins r
+begins_not compared.Ok h = absurd (h refl)
+begins_not compared.Incomplete h = refl
+begins_not compared.Error h = refl
 
 error≢ok : compared.Error ≡ compared.Ok → ⊥
 error≢ok e = false≢true (ap begins e)
@@ -89,10 +108,6 @@ further-further : (a b n : ℕ) (o : Option ℕ) → a + b ≡ n → further a (
 further-further a b n None e = refl
 further-further a b n (Some x) e = let s : a + (b + x) ≡ n + x = omega arith in ap Some s
 
-further_none : (o : Option ℕ) → further 0 o ≡ o
-further_none None = refl
-further_none (Some x) = ap Some (zero-add x)
-
 -- a tag whose first code is known begins with an item
 starts : (code : ℕ) (spelt : List Cell) → Some code ≡ code_of (first spelt) → (t : Cell) × (ts : List Cell) × (spelt ≡ t ∷ ts) × (code ≡ t.0)
 starts code [] h = absurd (let z : ◌≡◌ {A = ℕ} 0 1 = cc in omega arith)
@@ -107,11 +122,6 @@ pub record Reached (cells spelt : List Cell) (s e : ℕ) (out : Option ℕ) (at 
   pub start : s ≤ at
   pub within : Within cells at e
   pub so_far : further (at - s) (found (cut cells at e) spelt) ≡ out
-
-pub reach_start : (cells spelt : List Cell) (s e : ℕ) → Within cells s e → Reached cells spelt s e (found (cut cells s e) spelt) s
-reach_start cells spelt s e w =
-    let z : s - s ≡ 0 = omega arith in
-    record { start = omega arith; within = w; so_far = ap (λ n. further n (found (cut cells s e) spelt)) z ∙ further_none _ }
 
 -- one item on
 pub reach_on : (cells spelt : List Cell) (s e : ℕ) (out : Option ℕ) (at : ℕ) → Reached cells spelt s e out at → (c : Cell) → On cells at e c → begins (matched (cut cells at e) spelt) ≡ false → Reached cells spelt s e out (at + c.1)
@@ -152,12 +162,3 @@ module _ (cells spelt : List Cell) (s e : ℕ) (out : Option ℕ) (at : ℕ) (he
   found_nowhere z b =
       let none : found (cut cells at e) spelt ≡ None = ap (λ l. found l spelt) z ∙ cond-false _ _ _ (ap (λ l. begins (matched l spelt)) (sym z) ∙ b) in
       ap (further (at - s)) (sym none) ∙ here.so_far
-
--- the code of the first byte
-pub first_code : (bs : List ℕ) → 0 < length bs → Some (get_or bs 0 0) ≡ code_of (first (singles bs))
-first_code [] h = absurd (omega arith)
-first_code (b ∷ bs) h = refl
-
-pub first_none : (bs : List ℕ) → length bs ≤ 0 → None ≡ code_of (first (singles bs))
-first_none [] h = refl
-first_none (b ∷ bs) h = absurd (omega arith)

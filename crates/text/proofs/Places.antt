@@ -1,6 +1,6 @@
 -- What the definitions of searching and counting come to. Assumes nothing.
-use Rattle.std.proofs.Common.{◌≡◌, ℕ, zero, suc, ◌+◌, ◌<◌, Bool, true, false, List, [], ◌∷◌, ◌++◌, get_or, Some, None, Option, sym, refl, ap, ◌∙◌, subst, ⊎_elim, arith}
-use Rattle.std.proofs.lemmas.Bool.{cases_Bool, cases_eq, and_from, eq-eqb, ne_eqb, false≢true, both_ways, cond-true, cond-false}
+use Rattle.std.proofs.Common.{◌≡◌, ℕ, zero, suc, ◌+◌, ◌<◌, ◌≤◌, Bool, true, false, List, [], ◌∷◌, ◌++◌, get_or, Some, None, Option, sym, refl, ap, ◌∙◌, subst, ⊎_elim, arith}
+use Rattle.std.proofs.lemmas.Bool.{cases_Bool, cases_lt, cases_eq, and_from, eq-eqb, ne_eqb, false≢true, both_ways, cond-true, cond-false}
 use Rattle.text.specs.Cells.{Cell, total, singles}
 use Rattle.text.specs.Search.{same, matched, begins, found, further, until, is, lines}
 use Rattle.text.specs.Laws.{Begins, Stands, FirstPlace, Lines, last, more, FirstByte}
@@ -115,5 +115,11 @@ first_byte (x ∷ bs) b = ⊎_elim (λ e. now_here e) (λ h. later h (first_byte
         before zero l e = h e
         before (suc k) l e = r.before k (omega arith) e
 
-pub first_byte_by : (bs : List ℕ) (b n : ℕ) → n ≡ until (is b) (singles bs) → FirstByte bs b n
-first_byte_by bs b n e = subst (FirstByte bs b) (sym e) (first_byte bs b)
+-- and no other place is
+pub first_byte_only : (bs : List ℕ) (b n : ℕ) → FirstByte bs b n → n ≡ until (is b) (singles bs)
+first_byte_only bs b n f =
+    let m = until (is b) (singles bs) in
+    let l = first_byte bs b in
+    ⊎_elim (λ (low : n < m). absurd (l.before n low (f.here (omega (arith, l.within)))))
+    (λ (high : m ≤ n). ⊎_elim (λ (low : m < n). absurd (f.before m low (l.here (omega (arith, f.within))))) (λ (le : n ≤ m). omega arith) (cases_lt m n))
+    (cases_lt n m)

@@ -1,5 +1,5 @@
 -- When bytes are refused as a text or as a tag, and what is made of them then. Assumes nothing.
-use Rattle.std.specs.Prelude.{ℕ, cond, List, [], length, Ok, Err, Result, nat_lt}
+use Rattle.std.specs.Prelude.{◌≡◌, ℕ, cond, List, [], length, Ok, Err, Result, nat_lt}
 use Rattle.text.specs.declared.Refusal.{Refusal}
 use Rattle.text.specs.declared.Refusal.TheVariants.{TextTooLong, Malformed, TagTooLong}
 
@@ -23,6 +23,15 @@ byte_text_check bs = text_limit bs (Ok tt)
 
 abbrev pub byte_tag_check : List ℕ → Result (Unit {0}) Refusal
 byte_tag_check bs = tag_limit bs (Ok tt)
+
+-- whether there are at most so many bytes, or how many there are
+abbrev pub over : ℕ → List ℕ → Result (Unit {0}) ℕ
+over limit bs = cond (nat_lt limit (length bs)) (Err (length bs)) (Ok tt)
+
+-- what is answered of bytes that a check accepts or refuses: something that is so, or the check's refusal
+abbrev pub Made : {T : Type 0} → Result (Unit {0}) Refusal → (T → Type 0) → Result T Refusal → Type 0
+Made check P (Ok t) = (check ≡ Ok tt) × P t
+Made check P (Err e) = check ≡ Err e
 
 -- what is made of bytes: nothing where they are refused
 abbrev pub kept : Result (Unit {0}) Refusal → List ℕ → List ℕ

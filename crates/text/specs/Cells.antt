@@ -1,5 +1,6 @@
 -- A text by its items: the code of each and its width in bytes. Assumes nothing.
 use Rattle.std.specs.Prelude.{◌≡◌, ℕ, zero, suc, ◌+◌, ◌-◌, ◌<◌, ◌≤◌, Bool, true, false, ◌&&◌, List, [], ◌∷◌, length, Some, None, Option, nat_le}
+use Rattle.text.specs.declared.Span.{Span}
 
 -- an item's code and its width in bytes
 abbrev pub Cell : Type 0
@@ -36,6 +37,10 @@ before (suc n) (c ∷ cs) = c ∷ before (suc n - c.1) cs
 -- the items of the span from byte s to byte e
 abbrev pub cut : List Cell → ℕ → ℕ → List Cell
 cut cs s e = before (e - s) (after s cs)
+
+-- the items of a span
+abbrev pub part : List Cell → Span → List Cell
+part cs s = cut cs s.start s.end
 
 -- the span from s to e lies in the text, on item boundaries
 abbrev pub Within : List Cell → ℕ → ℕ → Type 0

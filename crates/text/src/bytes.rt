@@ -1,15 +1,16 @@
 // Texts and tags whose items are bytes.
-ghost use Rattle.std.specs.Prelude.{◌≡◌, ℕ, ◌+◌, ◌<◌, ◌≤◌, false, length, drop as rest, ◌≢◌, slice_index};
-ghost use Rattle.text.specs.Cells.{singles};
+ghost use Rattle.std.specs.Prelude.{◌≡◌, ◌≤◌, length};
+ghost use Rattle.text.specs.Cells.{Within, part, singles};
 ghost use Rattle.text.specs.Singles.{singles_lawful, singles_short};
 ghost use Rattle.text.specs.Search.{matched, until, is};
 ghost use Rattle.text.specs.Laws.{FirstByte};
 ghost use Rattle.text.specs.Need.{needed};
-ghost use Rattle.text.specs.Answers.{byte_text_check, byte_tag_check, kept};
+ghost use Rattle.text.specs.Answers.{over, byte_text_check, byte_tag_check, kept, Made};
 
 use super::{
-    CompareResult, Is, Needed, Needle, Predicate, Refusal, Span, TAG_LIMIT, TEXT_LIMIT, Text,
+    CompareResult, Input, Is, Needed, Needle, Predicate, Refusal, Span, TAG_LIMIT, TEXT_LIMIT,
 };
+use memchr::memchr;
 
 // A tag of bytes.
 #[derive(Clone, Copy)]
@@ -18,11 +19,24 @@ pub struct ByteTag<'a> {
     ghost few: { length bytes.now ≤ 32 },
 }
 
-// A text of bytes.
+// A text of bytes, and a span of it.
 #[derive(Clone, Copy)]
 pub struct ByteText<'a> {
     bytes: &'a [u8],
+    span: Span,
     ghost few: { length bytes.now ≤ 1048576 },
+    ghost within: { Within (singles bytes.now) span.start span.end },
+}
+
+// Whether there are at most `limit` bytes, or how many there are.
+fn check_len(bytes: &[u8], limit: usize) -> Result<(), usize>
+    ensures { result ≡ over limit bytes.now }
+{
+    if bytes.len() <= limit {
+        Ok(())
+    } else {
+        Err(bytes.len())
+    }
 }
 
 impl<'a> ByteTag<'a> {
@@ -30,23 +44,27 @@ impl<'a> ByteTag<'a> {
     pub fn check(bytes: &[u8]) -> Result<(), Refusal>
         ensures { result ≡ byte_tag_check bytes.now }
     {
-        if bytes.len() > TAG_LIMIT {
-            Err(Refusal::TagTooLong(bytes.len()))
-        } else {
-            Ok(())
-        }
+        check_len(bytes, TAG_LIMIT).map_err(Refusal::TagTooLong)
     }
 
-    // The bytes as a tag, or an empty tag where they are refused.
+    // The bytes as a tag, or an empty tag where they are refused: the call that cannot fail, beside `try_from`.
     pub fn new(bytes: &'a [u8]) -> ByteTag<'a>
         ensures { result.bytes.now ≡ kept (byte_tag_check bytes.now) bytes.now }
     {
-        match ByteTag::check(bytes) {
-            Ok(_) => ByteTag { bytes },
-            Err(_) => ByteTag {
-                bytes: &bytes[0..0],
-            },
-        }
+        ByteTag::try_from(bytes).unwrap_or(ByteTag { bytes: &[] })
+    }
+}
+
+impl<'a> TryFrom<&'a [u8]> for ByteTag<'a> {
+    type Error = Refusal;
+
+    ghost try_from_gives = { λ bytes r. Made
+        (byte_tag_check bytes.now)
+        (λ t. t.bytes.now ≡ bytes.now) r };
+
+    fn try_from(bytes: &'a [u8]) -> Result<ByteTag<'a>, Refusal> {
+        ByteTag::check(bytes)?;
+        Ok(ByteTag { bytes })
     }
 }
 
@@ -55,23 +73,46 @@ impl<'a> ByteText<'a> {
     pub fn check(bytes: &[u8]) -> Result<(), Refusal>
         ensures { result ≡ byte_text_check bytes.now }
     {
-        if bytes.len() > TEXT_LIMIT {
-            Err(Refusal::TextTooLong(bytes.len()))
-        } else {
-            Ok(())
+        check_len(bytes, TEXT_LIMIT).map_err(Refusal::TextTooLong)
+    }
+
+    // All of a text that is short enough.
+    fn over_all(bytes: &'a [u8]) -> ByteText<'a>
+        requires { length bytes.now ≤ 1048576 }
+        ensures bytes { result.bytes.now ≡ bytes.now }
+        ensures span { result.span ≡ record { start = 0; end = length bytes.now } }
+        ensures all { part (singles result.bytes.now) result.span ≡ singles result.bytes.now }
+    {
+        ByteText {
+            bytes,
+            span: Span {
+                start: 0,
+                end: bytes.len(),
+            },
         }
     }
 
-    // The bytes as a text, or an empty text where they are refused.
+    // The bytes as a text, or an empty text where they are refused; all of it is to be read. `try_from` tells why: this
+    // one cannot fail, for callers that have checked, or that take refused bytes for no bytes.
     pub fn new(bytes: &'a [u8]) -> ByteText<'a>
-        ensures { result.bytes.now ≡ kept (byte_text_check bytes.now) bytes.now }
+        ensures bytes { result.bytes.now ≡ kept (byte_text_check bytes.now) bytes.now }
+        ensures span { result.span ≡ record { start = 0; end = length result.bytes.now } }
+        ensures all { part (singles result.bytes.now) result.span ≡ singles result.bytes.now }
     {
-        match ByteText::check(bytes) {
-            Ok(_) => ByteText { bytes },
-            Err(_) => ByteText {
-                bytes: &bytes[0..0],
-            },
-        }
+        ByteText::try_from(bytes).unwrap_or(ByteText::over_all(&[]))
+    }
+}
+
+impl<'a> TryFrom<&'a [u8]> for ByteText<'a> {
+    type Error = Refusal;
+
+    ghost try_from_gives = { λ bytes r. Made
+        (byte_text_check bytes.now)
+        (λ t. (t.bytes.now ≡ bytes.now) × (t.span ≡ record { start = 0; end = length bytes.now }) × (part (singles t.bytes.now) t.span ≡ singles t.bytes.now)) r };
+
+    fn try_from(bytes: &'a [u8]) -> Result<ByteText<'a>, Refusal> {
+        ByteText::check(bytes)?;
+        Ok(ByteText::over_all(bytes))
     }
 }
 
@@ -79,135 +120,110 @@ impl<'a> ByteText<'a> {
 pub fn compare_bytes(text: &[u8], tag: &[u8]) -> CompareResult
     ensures { result ≡ matched (singles text.now) (singles tag.now) }
 {
-    let mut i = 0;
-    while i < tag.len() {
-        if i >= text.len() {
-            return CompareResult::Incomplete;
-        }
-        if text[i] != tag[i] {
-            return CompareResult::Error;
-        }
-        i += 1;
+    if text.starts_with(tag) {
+        CompareResult::Ok
+    } else if tag.starts_with(text) {
+        CompareResult::Incomplete
+    } else {
+        CompareResult::Error
     }
-    CompareResult::Ok
 }
 
-// Bytes that `skip_windows` looks at together.
-const WINDOW: usize = 32;
-
-// Whether the window from `at` on has the byte. With no way out of the loop it is compiled to a few vector operations.
-fn window_has(bytes: &[u8], at: usize, byte: u8) -> bool
-    requires { at + 32 ≤ length bytes.now }
-    ensures { result ≡ false → (k : ℕ) → at ≤ k → k < at + 32 → slice_index bytes.now k ≢ byte }
-{
-    let mut has = false;
-    for i in at..at + WINDOW {
-        has |= bytes[i] == byte;
-    }
-    has
-}
-
-// A number of bytes from the front that do not have the byte, in whole windows: past them it is near, or the end is.
-fn skip_windows(bytes: &[u8], byte: u8) -> usize
-    ensures within { result ≤ length bytes.now }
-    ensures skipped { result + until (is byte) (singles (rest result bytes.now)) ≡ until (is byte) (singles bytes.now) }
-{
-    let mut at = 0;
-    while bytes.len() - at >= WINDOW && !window_has(bytes, at, byte) {
-        at += WINDOW;
-    }
-    at
-}
-
-// How many bytes come before the first that is `byte`: all of them where none is.
+// How many bytes come before the first that is `byte`: all of them where none is, as `Input::position_of` answers.
 pub fn find_byte(bytes: &[u8], byte: u8) -> usize
     ensures value { result ≡ until (is byte) (singles bytes.now) }
     ensures first { FirstByte bytes.now byte result }
 {
-    let mut at = skip_windows(bytes, byte);
-    while at < bytes.len() && bytes[at] != byte {
-        at += 1;
-    }
-    at
+    memchr(byte, bytes).unwrap_or(bytes.len())
 }
 
 impl<'a> Needle for ByteTag<'a> {
     ghost spelt = { λ t. singles t.bytes.now };
-
-    ghost short = { λ t. singles_short t.bytes.now t.few };
 
     fn len(&self) -> usize {
         self.bytes.len()
     }
 
     fn first(&self) -> Option<u32> {
-        if self.bytes.len() > 0 {
-            Some(self.bytes[0] as u32)
-        } else {
-            None
-        }
+        let first = self.bytes.first()?;
+        Some(u32::from(*first))
     }
+
+    ghost short = { λ t. singles_short t.bytes.now t.few };
 }
 
-impl<'a> Text for ByteText<'a> {
+// The one-line methods stand in `Utf8Text` too: over a `ByteText` inside it each would be a line that calls this one.
+impl<'a> Input for ByteText<'a> {
     type Tag = ByteTag<'a>;
 
     ghost cells = { λ t. singles t.bytes.now };
 
     ghost raw = { λ t. t.bytes.now };
 
-    ghost lawful = { λ t. singles_lawful t.bytes.now t.few };
+    ghost place = { λ t. t.span };
 
     ghost lack = { needed };
 
-    fn len(&self) -> usize {
+    fn text_len(&self) -> usize {
         self.bytes.len()
+    }
+
+    fn span(&self) -> Span {
+        self.span
+    }
+
+    fn at(&self, span: Span) -> ByteText<'a> {
+        ByteText {
+            bytes: self.bytes,
+            span,
+        }
     }
 
     fn is_boundary(&self, at: usize) -> bool {
         at <= self.bytes.len()
     }
 
-    fn item(&self, span: Span) -> Option<(u32, usize)> {
-        if span.start < span.end {
-            Some((self.bytes[span.start] as u32, 1))
-        } else {
-            None
+    fn item(&self) -> Option<(u32, usize)> {
+        let first = self.bytes().first()?;
+        Some((u32::from(*first), 1))
+    }
+
+    fn bytes_at(&self, span: Span) -> &[u8] {
+        &self.bytes[span.start..span.end]
+    }
+
+    fn compare(&self, tag: &ByteTag<'a>) -> CompareResult {
+        compare_bytes(self.bytes(), tag.bytes)
+    }
+
+    fn position<P: Predicate>(&self, predicate: &P) -> usize {
+        let bytes = self.bytes();
+        // `iter().position(..)` runs at 0.71 of Rust's speed here, this loop at 1.00
+        for (at, byte) in bytes.iter().enumerate() {
+            if predicate.test(u32::from(*byte)) {
+                return at;
+            }
+        }
+        bytes.len()
+    }
+
+    fn position_of(&self, code: u32) -> usize {
+        match u8::try_from(code) {
+            Ok(byte) => find_byte(self.bytes(), byte),
+            Err(_) => self.position(&Is { code }),
         }
     }
 
-    fn bytes(&self, span: Span) -> &[u8] {
-        let start = span.start;
-        let end = span.end;
-        &self.bytes[start..end]
-    }
-
-    fn compare(&self, span: Span, tag: &ByteTag<'a>) -> CompareResult {
-        compare_bytes(self.bytes(span), tag.bytes)
-    }
-
-    fn position<P: Predicate>(&self, span: Span, predicate: &P) -> usize {
-        let mut at = span.start;
-        while at < span.end && !predicate.test(self.bytes[at] as u32) {
-            at += 1;
-        }
-        at - span.start
-    }
-
-    fn position_of(&self, span: Span, code: u32) -> usize {
-        if code < 256 {
-            find_byte(self.bytes(span), code as u8)
-        } else {
-            self.position(span, &Is { code })
-        }
-    }
-
-    fn slice_index(&self, span: Span, count: usize) -> Result<usize, Needed> {
-        let len = span.end - span.start;
+    fn slice_index(&self, count: usize) -> Result<usize, Needed> {
+        let len = self.span.len();
         if count <= len {
             Ok(count)
         } else {
             Err(Needed::new(count - len))
         }
     }
+
+    ghost lawful = { λ t. singles_lawful t.bytes.now t.few };
+
+    ghost within = { λ t. t.within };
 }

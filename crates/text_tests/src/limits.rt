@@ -1,6 +1,6 @@
 // Texts and tags one byte below, at and above their limits.
 use std::test::Fail;
-use text::{ByteTag, ByteText, Needle, Refusal, Text};
+use text::{ByteTag, ByteText, Input, Needle, Refusal};
 use utf8::{Utf8Tag, Utf8Text};
 
 #[test]
@@ -15,8 +15,8 @@ fn texts(rt: HostRuntime) -> Result<(), Fail> {
         };
         assert_eq!(rt; ByteText::check(bytes), answer);
         assert_eq!(rt; Utf8Text::check(bytes), answer);
-        assert_eq!(rt; ByteText::new(bytes).len(), kept);
-        assert_eq!(rt; Utf8Text::new(bytes).len(), kept);
+        assert_eq!(rt; ByteText::new(bytes).text_len(), kept);
+        assert_eq!(rt; Utf8Text::new(bytes).text_len(), kept);
     }
     Ok(())
 }

@@ -90,7 +90,7 @@ fn longest_well_formed_prefix(rt: HostRuntime) {
     }
 }
 
-// A broken byte at each place of a longer text, on either side of the windows that the check takes together.
+// A broken byte at each place of a longer text, on either side of the 64 bytes that the library takes together.
 #[test]
 fn every_place_of_a_long_text(rt: HostRuntime) -> Result<(), Fail> {
     for len in 0..200usize {
@@ -100,9 +100,7 @@ fn every_place_of_a_long_text(rt: HostRuntime) -> Result<(), Fail> {
         assert_eq!(rt; valid_up_to(bytes.as_slice()), len);
         bytes.push(0xA9)?;
         assert_eq!(rt; valid_up_to(bytes.as_slice()), len.saturating_add(2));
-        for _ in 0..100u8 {
-            bytes.push(b'b')?;
-        }
+        bytes.extend_from_slice(&[b'b'; 100])?;
         assert_eq!(rt; valid_up_to(bytes.as_slice()), bytes.len());
         bytes.push(0x80)?;
         assert_eq!(rt; valid_up_to(bytes.as_slice()), len.saturating_add(102));

@@ -1,6 +1,7 @@
 // What a text answers about its items.
 use std::num::NonZeroUsize;
-use text::{ByteTag, ByteText, CompareResult, Is, Needed, Text};
+use std::test::Fail;
+use text::{ByteTag, ByteText, CompareResult, Input, Is, Needed, Needle, Refusal, Span};
 use utf8::{Utf8Tag, Utf8Text};
 
 // A text, a tag, how they compare, and where the tag is found, in bytes.
@@ -36,22 +37,20 @@ fn compare_and_find(rt: HostRuntime) {
     for (text, tag, compared, found) in COMPARED {
         let bytes = ByteText::new(text.as_bytes());
         let byte_tag = ByteTag::new(tag.as_bytes());
-        let span = text::whole(&bytes);
-        assert_eq!(rt; bytes.compare(span, &byte_tag), compared);
+        assert_eq!(rt; bytes.compare(&byte_tag), compared);
         assert_eq!(rt;
-            text::starts_with(&bytes, span, &byte_tag),
+            text::starts_with(&bytes, &byte_tag),
             compared == CompareResult::Ok
         );
-        assert_eq!(rt; text::find(&bytes, span, &byte_tag), found);
+        assert_eq!(rt; text::find(&bytes, &byte_tag), found);
         let chars = Utf8Text::new(text.as_bytes());
         let char_tag = Utf8Tag::new(tag.as_bytes());
-        let span = text::whole(&chars);
-        assert_eq!(rt; chars.compare(span, &char_tag), compared);
+        assert_eq!(rt; chars.compare(&char_tag), compared);
         assert_eq!(rt;
-            text::starts_with(&chars, span, &char_tag),
+            text::starts_with(&chars, &char_tag),
             compared == CompareResult::Ok
         );
-        assert_eq!(rt; text::find(&chars, span, &char_tag), found);
+        assert_eq!(rt; text::find(&chars, &char_tag), found);
     }
 }
 
@@ -70,43 +69,36 @@ const PLACES: [(&str, u32, usize, usize); 7] = [
 fn position(rt: HostRuntime) {
     for (text, code, byte, char) in PLACES {
         let bytes = ByteText::new(text.as_bytes());
-        let span = text::whole(&bytes);
-        assert_eq!(rt; bytes.position(span, &Is { code }), byte);
-        assert_eq!(rt; bytes.position_of(span, code), byte);
+        assert_eq!(rt; bytes.position(&Is { code }), byte);
+        assert_eq!(rt; bytes.position_of(code), byte);
         let chars = Utf8Text::new(text.as_bytes());
-        let span = text::whole(&chars);
-        assert_eq!(rt; chars.position(span, &Is { code }), char);
-        assert_eq!(rt; chars.position_of(span, code), char);
+        assert_eq!(rt; chars.position(&Is { code }), char);
+        assert_eq!(rt; chars.position_of(code), char);
     }
 }
 
 fn size(n: usize) -> Needed {
-    match NonZeroUsize::new(n) {
-        Some(n) => Needed::Size(n),
-        None => Needed::Unknown,
-    }
+    NonZeroUsize::new(n).map_or(Needed::Unknown, Needed::Size)
 }
 
 // Bytes lack the difference; code points of unknown widths lack what nobody knows.
 #[test]
 fn slice_index(rt: HostRuntime) {
     let bytes = ByteText::new("é€".as_bytes());
-    let span = text::whole(&bytes);
-    assert_eq!(rt; bytes.slice_index(span, 0), Ok(0));
-    assert_eq!(rt; bytes.slice_index(span, 5), Ok(5));
-    assert_eq!(rt; bytes.slice_index(span, 6), Err(size(1)));
+    assert_eq!(rt; bytes.slice_index(0), Ok(0));
+    assert_eq!(rt; bytes.slice_index(5), Ok(5));
+    assert_eq!(rt; bytes.slice_index(6), Err(size(1)));
     let chars = Utf8Text::new("é€".as_bytes());
-    let span = text::whole(&chars);
-    assert_eq!(rt; chars.slice_index(span, 0), Ok(0));
-    assert_eq!(rt; chars.slice_index(span, 1), Ok(2));
-    assert_eq!(rt; chars.slice_index(span, 2), Ok(5));
-    assert_eq!(rt; chars.slice_index(span, 3), Err(Needed::Unknown));
+    assert_eq!(rt; chars.slice_index(0), Ok(0));
+    assert_eq!(rt; chars.slice_index(1), Ok(2));
+    assert_eq!(rt; chars.slice_index(2), Ok(5));
+    assert_eq!(rt; chars.slice_index(3), Err(Needed::Unknown));
 }
 
 #[test]
 fn items_and_boundaries(rt: HostRuntime) {
     let chars = Utf8Text::new(&[0xE2, 0x82, 0xAC]);
-    assert_eq!(rt; chars.item(text::whole(&chars)), Some((0x20AC, 3)));
+    assert_eq!(rt; chars.item(), Some((0x20AC, 3)));
     assert_eq!(rt; text::count_items(&chars), 1);
     assert!(rt;
         chars.is_boundary(0)
@@ -116,9 +108,9 @@ fn items_and_boundaries(rt: HostRuntime) {
     );
     assert!(rt; !chars.is_boundary(4));
     let chars = Utf8Text::new("🧵".as_bytes());
-    assert_eq!(rt; chars.item(text::whole(&chars)), Some((0x1F9F5, 4)));
+    assert_eq!(rt; chars.item(), Some((0x1F9F5, 4)));
     let bytes = ByteText::new(&[0xE2, 0x82, 0xAC]);
-    assert_eq!(rt; bytes.item(text::whole(&bytes)), Some((0xE2, 1)));
+    assert_eq!(rt; bytes.item(), Some((0xE2, 1)));
     assert!(rt; bytes.is_boundary(1) && bytes.is_boundary(3) && !bytes.is_boundary(4));
 }
 
@@ -142,4 +134,34 @@ fn needed_is_never_a_size_of_0(rt: HostRuntime) {
     assert_eq!(rt; Needed::new(0), Needed::Unknown);
     assert_eq!(rt; Needed::new(2), size(2));
     assert!(rt; Needed::new(1).is_known() && !Needed::new(0).is_known());
+}
+
+// Parts of a text: the items past its first, and those before; and the whole again.
+#[test]
+fn parts(rt: HostRuntime) {
+    let text = Utf8Text::new("é€5".as_bytes());
+    assert!(rt; text.is_boundary(2) && text.is_boundary(6));
+    let rest = text.at(Span { start: 2, end: 6 });
+    assert_eq!(rt; rest.span(), Span { start: 2, end: 6 });
+    assert_eq!(rt; rest.item(), Some((0x20AC, 3)));
+    assert_eq!(rt; text::count_items(&rest), 2);
+    assert_eq!(rt; text::count_items(&rest.whole()), 3);
+}
+
+// Bytes as a text, or why they are none.
+#[test]
+fn tried(rt: HostRuntime) -> Result<(), Fail> {
+    let bytes: &[u8] = "é".as_bytes();
+    assert_eq!(rt;
+        Utf8Text::try_from(bytes).map_err(|_| "refused")?.text_len(),
+        2
+    );
+    assert_eq!(rt;
+        ByteText::try_from(bytes).map_err(|_| "refused")?.span(),
+        Span { start: 0, end: 2 }
+    );
+    let cut: &[u8] = &[0xC3];
+    assert_eq!(rt; Utf8Text::try_from(cut).err(), Some(Refusal::Malformed(0)));
+    assert_eq!(rt; ByteTag::try_from(cut).map_err(|_| "refused")?.len(), 1);
+    Ok(())
 }

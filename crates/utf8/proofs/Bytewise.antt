@@ -1,12 +1,11 @@
 -- Code points against code points, by their bytes. Assumes nothing.
-use Rattle.std.proofs.Common.{◌≡◌, ℕ, zero, suc, ◌+◌, ◌-◌, ◌*◌, ◌<◌, ◌≤◌, true, false, cond, ◌&&◌, eqb, List, [], ◌∷◌, length, get_or, take, drop, Some, sym, refl, ap, ◌∙◌, subst, ⊎_elim, zero-add, arith}
+use Rattle.std.proofs.Common.{◌≡◌, ℕ, zero, suc, ◌+◌, ◌-◌, ◌*◌, ◌<◌, ◌≤◌, Bool, true, false, cond, ◌&&◌, eqb, List, [], ◌∷◌, length, get_or, take, drop, Some, sym, refl, ap, ◌∙◌, subst, ⊎_elim, zero-add, arith}
 use Rattle.std.proofs.lemmas.Bool.{cases_lt, cases_eq, cases_Bool, eq-eqb, ne_eqb, false≢true, both_ways, cond-false}
-use Rattle.std.proofs.lemmas.List.{length-drop, nil_from_length}
+use Rattle.std.proofs.lemmas.List.{length-drop, nil_from_length, drop_more}
 use Rattle.text.specs.declared.CompareResult.TheVariants as compared
 use Rattle.text.specs.Cells.{Cell, total, singles}
 use Rattle.text.specs.Search.{same, matched, until, is}
 use Rattle.text.proofs.Places.{same_self, same_from}
-use Rattle.text.proofs.Walking.{bytes_skip}
 use Rattle.utf8.specs.Octets.{rows, row_of, follow, glue, char, scan, WellFormed}
 use Rattle.utf8.specs.Scans.{none≢some, read, follow_parts, follow_fits, char_fits}
 use Rattle.utf8.proofs.Table.{row_sound, inside_bounds, base_of, least}
@@ -40,9 +39,9 @@ char_alike (x ∷ xs) (y ∷ ys) c e f =
     let ts = row_sound y t.row t.is in
     let w : t.row.tails ≡ r.row.tails = omega (arith, r.width, t.width) in
     let bases : t.row.base ≡ r.row.base = ts.mark ∙ ap base_of w ∙ sym rs.mark in
-    let there : follow r.row.tails t.row.from t.row.to ys ≡ true = ap (λ n. follow n t.row.from t.row.to ys) (sym w) ∙ t.follows in
+    let there : follow r.row.tails t.row.second.low t.row.second.high ys ≡ true = ap (λ n. follow n t.row.second.low t.row.second.high ys) (sym w) ∙ t.follows in
     let codes : glue r.row.tails (x - r.row.base) xs ≡ glue r.row.tails (y - t.row.base) ys = sym r.code ∙ t.code ∙ ap (λ n. glue n (y - t.row.base) ys) w in
-    let a = glue_alike r.row.tails r.row.from r.row.to t.row.from t.row.to (x - r.row.base) (y - t.row.base) xs ys rs.from rs.to ts.from ts.to r.follows there codes in
+    let a = glue_alike r.row.tails r.row.second.low r.row.second.high t.row.second.low t.row.second.high (x - r.row.base) (y - t.row.base) xs ys rs.from rs.to ts.from ts.to r.follows there codes in
     let heads : x ≡ y = omega (arith, a.0, rs.based, ts.based, bases) in
     let k = a.1 in
     let u : x ∷ take r.row.tails xs ≡ y ∷ take r.row.tails ys = cc in
@@ -145,7 +144,7 @@ wide_code b bs c e h =
     ⊎_elim
     (λ z. absurd (omega (arith, z, more)))
     (λ k.
-    let high = wide_glue (r.row.tails - 1) r.row.from r.row.to (b - r.row.base) bs (ap (λ n. follow n r.row.from r.row.to bs) (sym more) ∙ r.follows) s.from (subst (λ n. least n ≤ (b - r.row.base) * 64 + (r.row.from - 0x80)) more k) in
+    let high = wide_glue (r.row.tails - 1) r.row.second.low r.row.second.high (b - r.row.base) bs (ap (λ n. follow n r.row.second.low r.row.second.high bs) (sym more) ∙ r.follows) s.from (subst (λ n. least n ≤ (b - r.row.base) * 64 + (r.row.second.low - 0x80)) more k) in
     subst (λ x. 0x80 ≤ x) (ap (λ n. glue n (b - r.row.base) bs) (sym more) ∙ sym r.code) high)
     s.high
 
@@ -155,7 +154,17 @@ wide_bytes b bs c e h (suc k) l =
     let r = read b bs c e in
     let s = row_sound b r.row r.is in
     let w = r.width in
-    (follow_range r.row.tails r.row.from r.row.to bs s.from s.to r.follows k (omega arith)).0
+    (follow_range r.row.tails r.row.second.low r.row.second.high bs s.from s.to r.follows k (omega arith)).0
+
+-- over n bytes, none of which meets the test
+bytes_skip : (p : ℕ → Bool) (bs : List ℕ) (n at : ℕ) → at + n ≤ length bs → ((k : ℕ) → at ≤ k → k < at + n → p (get_or bs k 0) ≡ false) → until p (singles (drop at bs)) ≡ n + until p (singles (drop (at + n) bs))
+bytes_skip p bs zero at h b = let z : at + 0 ≡ at = omega arith in rw z (omega arith)
+bytes_skip p bs (suc n) at h b =
+    let one : until p (singles (drop at bs)) ≡ 1 + until p (singles (drop (at + 1) bs)) = ap (λ l. until p (singles l)) (drop_more bs at 0 (omega arith)) ∙ cond-false _ _ _ (b at (omega arith) (omega arith)) in
+    let more = bytes_skip p bs n (at + 1) (omega arith) (λ k l m. b k (omega arith) (omega arith)) in
+    let sum : at + 1 + n ≡ at + suc n = omega arith in
+    let same = ap (λ k. until p (singles (drop k bs))) sum in
+    omega arith
 
 -- so the first of an ASCII code is found by bytes
 until_by : (code : ℕ) → code < 0x80 → (cs : List Cell) (bs : List ℕ) → scan bs ≡ cs → total cs ≡ length bs → until (is code) (singles bs) ≡ until (is code) cs

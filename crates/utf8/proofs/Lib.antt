@@ -4,3 +4,4 @@ pub mod Starts
 pub mod Bytewise
 pub mod Rules
 pub mod Decode
+pub mod Library

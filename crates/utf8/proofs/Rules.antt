@@ -27,9 +27,9 @@ listed (r ∷ rs) zero d h = Memᴰ.head refl
 listed (r ∷ rs) (suc k) d h = Memᴰ.tail (listed rs k d (omega arith))
 
 abbrev row_at : ℕ → Row
-row_at k = get_or rows k (record { low = 0; high = 0; tails = 0; from = 0; to = 0; base = 0 })
+row_at k = get_or rows k (record { lead = record { low = 0; high = 0 }; tails = 0; second = record { low = 0; high = 0 }; base = 0 })
 
-by_row : (k : ℕ) → k < length rows → (a : ℕ) → In (row_at k).low (row_at k).high a → (bs : List ℕ) → follow (row_at k).tails (row_at k).from (row_at k).to bs ≡ true → char (a ∷ bs) ≡ Some (glue (row_at k).tails (a - (row_at k).base) bs, suc (row_at k).tails)
+by_row : (k : ℕ) → k < length rows → (a : ℕ) → In (row_at k).lead.low (row_at k).lead.high a → (bs : List ℕ) → follow (row_at k).tails (row_at k).second.low (row_at k).second.high bs ≡ true → char (a ∷ bs) ≡ Some (glue (row_at k).tails (a - (row_at k).base) bs, suc (row_at k).tails)
 by_row k h a lead bs f = ap (λ o. led o a bs) (row_listed a (row_at k) (listed rows k _ h) lead.0 lead.1) ∙ cond-true _ _ _ f
 
 -- the bytes after the lead byte
@@ -54,10 +54,10 @@ made os code (four_f0 {a = a} {b = b} {c = c} {d = d} h p q s) bs = by_row 6 (li
 made os code (four_f1 {a = a} {b = b} {c = c} {d = d} h p q s) bs = by_row 7 (lit< tt) a h (b ∷ c ∷ d ∷ bs) (tail_3 _ _ b c d bs p q s)
 made os code (four_f4 {a = a} {b = b} {c = c} {d = d} h p q s) bs = by_row 8 (lit< tt) a h (b ∷ c ∷ d ∷ bs) (tail_3 _ _ b c d bs p q s)
 
-sound : (bs ns : List ℕ) → Octets bs ns → WellFormed bs
-sound bs ns none = refl
-sound bs ns (more {os = os} {rest = rest} {codes = codes} {code = code} p o) =
-    let r = sound rest codes o in
+pub octets_well : (bs ns : List ℕ) → Octets bs ns → WellFormed bs
+octets_well bs ns none = refl
+octets_well bs ns (more {os = os} {rest = rest} {codes = codes} {code = code} p o) =
+    let r = octets_well rest codes o in
     let on : drop (length os) (os ++ rest) ≡ rest = drop_at os rest (length os) refl in
     let e = ap total (scan_some (os ++ rest) (code, length os) (made os code p rest)) ∙ ap (λ l. length os + total (scan l)) on in
     let l = length-append os rest in
@@ -74,7 +74,7 @@ all_at P (x ∷ rs) r h (Memᴰ.head e) = subst P (sym e) h.0
 all_at P (x ∷ rs) r h (Memᴰ.tail m) = all_at P rs r h.1 m
 
 abbrev Alternative : Row → Type 0
-Alternative r = (a : ℕ) (bs : List ℕ) → In r.low r.high a → follow r.tails r.from r.to bs ≡ true → Char (a ∷ take r.tails bs) (glue r.tails (a - r.base) bs)
+Alternative r = (a : ℕ) (bs : List ℕ) → In r.lead.low r.lead.high a → follow r.tails r.second.low r.second.high bs ≡ true → Char (a ∷ take r.tails bs) (glue r.tails (a - r.base) bs)
 
 -- one, two and three bytes after the lead byte
 module _ (lo hi : ℕ) (P : List ℕ → Type 0) where
@@ -122,7 +122,7 @@ alternatives =
 read_char : (b : ℕ) (bs : List ℕ) (c : Cell) (r : Read b bs c) → Char (b ∷ take r.row.tails bs) c.0
 read_char b bs c r =
     let m = listed_row b r.row rows r.is in
-    subst (Char (b ∷ take r.row.tails bs)) (sym r.code) (all_at Alternative rows r.row alternatives m.0 b bs (inside_bounds r.row.low r.row.high b m.1) r.follows)
+    subst (Char (b ∷ take r.row.tails bs)) (sym r.code) (all_at Alternative rows r.row alternatives m.0 b bs (inside_bounds r.row.lead.low r.row.lead.high b m.1) r.follows)
 
 complete : (cs : List Cell) (bs : List ℕ) → scan bs ≡ cs → total cs ≡ length bs → Octets bs (codes cs)
 complete [] bs e t = subst (λ l. Octets l []) (sym (nil_from_length bs (sym t))) none
@@ -140,11 +140,11 @@ complete (c ∷ cs) (b ∷ bs) e t =
 well_octets : (bs : List ℕ) → WellFormed bs → Octets bs (codes (scan bs))
 well_octets bs w = complete (scan bs) bs refl w
 
-well_utf8 : (bs : List ℕ) → WellFormed bs → Utf8 bs
+pub well_utf8 : (bs : List ℕ) → WellFormed bs → Utf8 bs
 well_utf8 bs w = (codes (scan bs), well_octets bs w)
 
-utf8_well : (bs : List ℕ) → Utf8 bs → WellFormed bs
-utf8_well bs u = sound bs u.0 u.1
+pub utf8_well : (bs : List ℕ) → Utf8 bs → WellFormed bs
+utf8_well bs u = octets_well bs u.0 u.1
 
 -- the longest prefix
 scan_le : (cs : List Cell) (bs : List ℕ) → scan bs ≡ cs → total cs ≤ length bs
@@ -169,7 +169,7 @@ prefix_le (c ∷ cs) bs n h e =
     let r = prefix_le cs (drop c.1 bs) (n - c.1) (omega arith) (ap scan (sym on) ∙ p.1) in
     let t = ap total (scan_some bs c here) in omega arith
 
-longest : (bs : List ℕ) → Longest bs (total (scan bs))
+pub longest : (bs : List ℕ) → Longest bs (total (scan bs))
 longest bs =
     let n = total (scan bs) in
     let le = scan_le (scan bs) bs refl in

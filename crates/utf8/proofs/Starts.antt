@@ -1,11 +1,11 @@
 -- Well-formed bytes by their code points: where these start, and what a span of them holds. Assumes nothing.
-use Rattle.std.proofs.Common.{◌≡◌, ℕ, zero, suc, ◌+◌, ◌-◌, ◌*◌, ◌<◌, ◌≤◌, Bool, true, false, cond, ◌&&◌, eqb, ltb, leb, List, [], ◌∷◌, length, get_or, take, drop, is_some, Some, sym, refl, ap, ◌∙◌, ⊎_elim, arith}
+use Rattle.std.proofs.Common.{◌≡◌, ℕ, zero, suc, ◌+◌, ◌-◌, ◌*◌, ◌<◌, ◌≤◌, Bool, true, false, cond, ◌&&◌, eqb, ltb, leb, List, [], ◌∷◌, length, get_or, take, drop, Some, sym, refl, ap, ◌∙◌, ⊎_elim, arith}
 use Rattle.std.proofs.lemmas.Bool.{cases_lt, cases_eq, and_left, le-leb, lt-leb, lt-ltb, le-ltb, eq-eqb, ne_eqb, or_left, or_right, or_from, false≢true, cond-true, cond-false}
 use Rattle.std.proofs.lemmas.List.{drop-drop, length-drop, length-take-le, take-take, drop-take, get_or-drop, nil_from_length}
 use Rattle.text.specs.Cells.{Cell, total, boundary, after, before, cut, Within, first}
-use Rattle.text.proofs.Cuts.{On, item_on, past_first, boundary-after, total-after, cut-total, cut_step}
+use Rattle.text.proofs.Cuts.{past_first, boundary-after, total-after, cut-total}
 use Rattle.utf8.specs.Octets.{inside, follow, glue, led, char, scan, WellFormed, leads}
-use Rattle.utf8.specs.Scans.{none≢some, Read, read, follow_parts, char_fits, scan_some, first-scan, solid-scan}
+use Rattle.utf8.specs.Scans.{none≢some, Read, read, follow_parts, char_fits, scan_some, first-scan}
 use Rattle.utf8.proofs.Table.{row_sound, inside_bounds}
 
 -- a scan, taken apart
@@ -26,22 +26,6 @@ after-scan (c ∷ cs) bs (suc n) e b =
 
 pub within_end : (cs : List Cell) (s e : ℕ) → Within cs s e → e ≤ total cs
 within_end cs s e w = let t = total-after cs e w.2 in omega arith
-
-first-before : (n : ℕ) (cs : List Cell) → 0 < n → first (before n cs) ≡ first cs
-first-before zero cs h = absurd (omega arith)
-first-before (suc n) [] h = refl
-first-before (suc n) (c ∷ cs) h = refl
-
--- a code point starts at each place of a span but its end
-module _ (bs : List ℕ) (s e : ℕ) (w : Within (scan bs) s e) (h : s < e) where
-  pub first-cut : first (cut (scan bs) s e) ≡ char (drop s bs)
-  first-cut = first-before (e - s) (after s (scan bs)) (omega arith) ∙ ap first (after-scan (scan bs) bs s refl w.1) ∙ first-scan (drop s bs)
-
-  pub some_cut : is_some (char (drop s bs)) ≡ true
-  some_cut = let t = cut_step (scan bs) s e (solid-scan bs) w h in ap is_some (sym first-cut ∙ ap first t.is)
-
-  pub on_char : (c : Cell) → Some c ≡ char (drop s bs) → On (scan bs) s e c
-  on_char c k = item_on (scan bs) s e c (solid-scan bs) w (k ∙ sym first-cut)
 
 -- the bytes after a lead byte start no code point
 pub follow_range : (n lo hi : ℕ) (bs : List ℕ) → 0x80 ≤ lo → hi ≤ 0xBF → follow n lo hi bs ≡ true → (k : ℕ) → k < n → (0x80 ≤ get_or bs k 0) × (get_or bs k 0 < 0xC0)
@@ -70,7 +54,7 @@ lead_inner (b ∷ bs) c n e h =
     let r = read b bs c e in
     let s = row_sound b r.row r.is in
     let w = r.width in
-    let t = follow_range r.row.tails r.row.from r.row.to bs s.from s.to r.follows n (omega arith) in
+    let t = follow_range r.row.tails r.row.second.low r.row.second.high bs s.from s.to r.follows n (omega arith) in
     lead_not (get_or bs n 0) t.0 t.1
 
 lead_at_drop : (bs : List ℕ) (w n : ℕ) → w ≤ n → w ≤ length bs → lead_at (drop w bs) (n - w) ≡ lead_at bs n
@@ -139,7 +123,7 @@ char_local (x ∷ xs) ys c e h = go ys (sym (ap (λ n. take n (x ∷ xs)) r.widt
     go [] k = absurd (nil≢cons x (take r.row.tails xs) (sym k))
     go (y ∷ ys) k =
         let p = same_head x y (take r.row.tails xs) (take r.row.tails ys) k in
-        let there : follow r.row.tails r.row.from r.row.to ys ≡ true = sym (follow_local r.row.tails r.row.from r.row.to xs ys p.1) ∙ r.follows in
+        let there : follow r.row.tails r.row.second.low r.row.second.high ys ≡ true = sym (follow_local r.row.tails r.row.second.low r.row.second.high xs ys p.1) ∙ r.follows in
         let code : glue r.row.tails (x - r.row.base) ys ≡ c.0 = sym (r.code ∙ glue_local r.row.tails (x - r.row.base) xs ys p.1) in
         ap (λ b. char (b ∷ ys)) (sym p.0) ∙ ap (λ o. led o x ys) r.is ∙ cond-true _ _ _ there ∙ ap (λ n. Some (n, suc r.row.tails)) code ∙ ap (λ n. Some (c.0, n)) (sym r.width)
 

@@ -1,10 +1,11 @@
 -- UTF-8 as RFC 3629 has it: a table of lead bytes, and the code points that a list of bytes begins with. Assumes nothing.
 use Rattle.std.specs.Prelude.{◌≡◌, ℕ, zero, suc, ◌+◌, ◌-◌, ◌*◌, Bool, true, false, cond, ◌&&◌, ◌||◌, List, [], ◌∷◌, length, Some, None, Option, nat_le, nat_lt}
+use Rattle.std.specs.List.{find}
 use Rattle.text.specs.Cells.{Cell, total}
 use Rattle.utf8.specs.declared.rows.Row.{Row}
 
 abbrev row : ℕ → ℕ → ℕ → ℕ → ℕ → ℕ → Row
-row a b n c d e = record { low = a; high = b; tails = n; from = c; to = d; base = e }
+row a b n c d e = record { lead = record { low = a; high = b }; tails = n; second = record { low = c; high = d }; base = e }
 
 -- the lead bytes of a row, how many bytes follow, the range of the first of these, and what marks the lead byte.
 -- The bytes after that one are from 0x80 to 0xBF.
@@ -26,8 +27,7 @@ inside lo hi b = nat_le lo b && nat_le b hi
 
 -- the row of a lead byte
 abbrev pub row_of : List Row → ℕ → Option Row
-row_of [] b = None
-row_of (r ∷ rs) b = cond (inside r.low r.high b) (Some r) (row_of rs b)
+row_of rs b = find (λ r. inside r.lead.low r.lead.high b) rs
 
 -- whether n bytes follow, the first of them from lo to hi
 abbrev pub follow : ℕ → ℕ → ℕ → List ℕ → Bool
@@ -43,17 +43,12 @@ glue (suc n) code (b ∷ bs) = glue n (code * 64 + (b - 0x80)) bs
 
 abbrev pub led : Option Row → ℕ → List ℕ → Option Cell
 led None b bs = None
-led (Some r) b bs = cond (follow r.tails r.from r.to bs) (Some (glue r.tails (b - r.base) bs, suc r.tails)) None
+led (Some r) b bs = cond (follow r.tails r.second.low r.second.high bs) (Some (glue r.tails (b - r.base) bs, suc r.tails)) None
 
 -- the code point that the bytes begin with, with its width
 abbrev pub char : List ℕ → Option Cell
 char [] = None
 char (b ∷ bs) = led (row_of rows b) b bs
-
--- the width of a code point, 0 where there is none
-abbrev pub width_of : Option Cell → ℕ
-width_of None = 0
-width_of (Some c) = c.1
 
 abbrev pub push : Option Cell → (Cell → List Cell) → List Cell
 push None k = []

@@ -1,13 +1,12 @@
 -- What the scan of a list of bytes comes to: no code point is empty, and each lies within the bytes. Assumes nothing.
-use Rattle.std.specs.Prelude.{◌≡◌, ℕ, zero, suc, ◌-◌, ◌<◌, ◌≤◌, true, false, List, [], ◌∷◌, length, drop, Some, None, Option, ◌≢◌, refl}
-use Rattle.std.proofs.Common.{suc-le-suc, sym, ap, ◌∙◌, ⊎_elim, arith}
-use Rattle.std.proofs.lemmas.Bool.{cases_Bool, and_parts, false≢true, cond-true, cond-false}
+use Rattle.std.specs.Prelude.{◌≡◌, ℕ, zero, suc, ◌-◌, ◌<◌, ◌≤◌, true, List, [], ◌∷◌, length, drop, Some, None, Option, refl}
+use Rattle.std.proofs.Common.{suc-le-suc, sym, ap, ◌∙◌, arith}
+use Rattle.std.proofs.lemmas.Bool.{and_parts, false≢true}
+use Rattle.std.proofs.lemmas.Option.{cond_some}
+pub use Rattle.std.proofs.lemmas.Option.{none-some as none≢some}
 use Rattle.text.specs.Cells.{Cell, Solid, first, Lawful, Short}
 use Rattle.utf8.specs.declared.rows.Row.{Row}
 use Rattle.utf8.specs.Octets.{rows, inside, row_of, follow, led, char, push, scan_past, scan, WellFormed, glue}
-
-pub none≢some : {A : Type 0} (x : A) → None ≢ Some x
-none≢some x e = let z : ◌≡◌ {A = ℕ} 0 1 = cc in omega arith
 
 -- the bytes that follow a lead byte are there, and in their ranges
 pub follow_parts : (n lo hi b : ℕ) (bs : List ℕ) → follow (suc n) lo hi (b ∷ bs) ≡ true → (inside lo hi b ≡ true) × (follow n 0x80 0xBF bs ≡ true)
@@ -22,28 +21,19 @@ follow_fits (suc n) lo hi (b ∷ bs) e = suc-le-suc (follow_fits n 0x80 0xBF bs 
 pub record Read (b : ℕ) (bs : List ℕ) (c : Cell) : Type 0 where
   pub row : Row
   pub is : row_of rows b ≡ Some row
-  pub follows : follow row.tails row.from row.to bs ≡ true
+  pub follows : follow row.tails row.second.low row.second.high bs ≡ true
   pub code : c.0 ≡ glue row.tails (b - row.base) bs
   pub width : c.1 ≡ suc row.tails
-
-read_by : (b : ℕ) (bs : List ℕ) (c : Cell) (r : Row) → row_of rows b ≡ Some r → led (Some r) b bs ≡ Some c → Read b bs c
-read_by b bs c r k e = ⊎_elim there missing (cases_Bool (follow r.tails r.from r.to bs))
-  where
-    there : follow r.tails r.from r.to bs ≡ true → Read b bs c
-    there f =
-        let is : Some (glue r.tails (b - r.base) bs, suc r.tails) ≡ Some c = sym (cond-true _ _ _ f) ∙ e in
-        let s : (glue r.tails (b - r.base) bs, suc r.tails) ≡ c = cc in
-        record { row = r; is = k; follows = f; code = sym (ap (λ p. p.0) s); width = sym (ap (λ p. p.1) s) }
-
-    missing : follow r.tails r.from r.to bs ≡ false → Read b bs c
-    missing f = absurd (none≢some c (sym (cond-false _ _ _ f) ∙ e))
 
 pub read : (b : ℕ) (bs : List ℕ) (c : Cell) → char (b ∷ bs) ≡ Some c → Read b bs c
 read b bs c e = go (row_of rows b) refl
   where
     go : (o : Option Row) → row_of rows b ≡ o → Read b bs c
     go None k = absurd (none≢some c (sym (ap (λ o. led o b bs) k) ∙ e))
-    go (Some r) k = read_by b bs c r k (sym (ap (λ o. led o b bs) k) ∙ e)
+    go (Some r) k =
+        let is : led (Some r) b bs ≡ Some c = sym (ap (λ o. led o b bs) k) ∙ e in
+        let p = cond_some (follow r.tails r.second.low r.second.high bs) _ c is in
+        record { row = r; is = k; follows = p.0; code = ap (λ p. p.0) (sym p.1); width = ap (λ p. p.1) (sym p.1) }
 
 -- a code point takes some bytes, and they are there
 pub char_fits : (bs : List ℕ) (c : Cell) → char bs ≡ Some c → (0 < c.1) × (c.1 ≤ length bs)

@@ -1,8 +1,7 @@
-use Rattle.std.proofs.Common.{arith}
 use Rattle.text.proofs.Cuts.{item_on}
 use Rattle.demo.proofs.next_item.Goals as goal
 
-pub overflow_add-start : goal.overflow_add-start
-overflow_add-start g c =
-    let on = item_on (g.T.Text.cells c.args.text.now) c.args.span.start c.args.span.end (c.in-Some.code, c.in-Some.width) (g.T.Text.lawful _).solid c.requires c.in-Some.ensures in
-    omega (arith, on.fits)
+pub take_from-requires : goal.take_from-requires
+take_from-requires g c =
+    let input = c.args.input.now in
+    (item_on _ _ _ (c.in-Some.code, c.in-Some.width) (g.met.T.Input.lawful input).solid (g.met.T.Input.within input) c.in-Some.ensures).within

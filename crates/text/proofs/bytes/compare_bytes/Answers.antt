@@ -1,15 +1,12 @@
-use Rattle.std.proofs.Common.{sym, ◌∙◌}
-use Rattle.text.proofs.Matching.{bytes_on, bytes_apart, bytes_short, bytes_begin}
+use Rattle.std.proofs.Common.{sym}
+use Rattle.text.proofs.Matching.{bytes_begin, bytes_short, bytes_apart}
 use Rattle.text.proofs.bytes.compare_bytes.Goals as goal
 
-pub returns-then-i-text : goal.returns-then-i-text
-returns-then-i-text c = sym (bytes_short _ _ _ c.if-i-text.true c.loop-i-test.true) ∙ c.loop-i.invariant
+pub returns-then-starts_with : goal.returns-then-starts_with
+returns-then-starts_with c = bytes_begin c.args.text.now c.args.tag.now (sym c.if-starts_with.ensures.value)
 
-pub returns-then-text-i : goal.returns-then-text-i
-returns-then-text-i c = sym (bytes_apart _ _ _ c.if-i-text.false c.loop-i-test.true c.if-text-i.true) ∙ c.loop-i.invariant
+pub returns-then-starts_with-2 : goal.returns-then-starts_with-2
+returns-then-starts_with-2 c = bytes_short c.args.text.now c.args.tag.now (sym c.if-starts_with.ensures.value) (sym c.if-starts_with-2.ensures.value)
 
-pub loop-i-preserved : goal.loop-i-preserved
-loop-i-preserved c = sym (bytes_on _ _ _ c.if-i-text.false c.loop-i-test.true c.if-text-i.false) ∙ c.loop-i.invariant
-
-pub returns : goal.returns
-returns c = sym (bytes_begin _ _ _ c.loop-i-test.false) ∙ c.loop-i.invariant
+pub returns-else-starts_with-2 : goal.returns-else-starts_with-2
+returns-else-starts_with-2 c = bytes_apart c.args.text.now c.args.tag.now (sym c.if-starts_with.ensures.value) (sym c.if-starts_with-2.ensures.value)

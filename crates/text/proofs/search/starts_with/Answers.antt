@@ -1,13 +1,13 @@
-use Rattle.std.proofs.Common.{ap}
+use Rattle.std.proofs.Common.{ap, ◌∙◌}
 use Rattle.text.specs.Search.{begins}
+use Rattle.text.proofs.Matching.{begins_not}
 use Rattle.text.proofs.Places.{begins_law}
 use Rattle.text.proofs.search.starts_with.Goals as goal
 
-pub returns-in-Ok : goal.returns-in-Ok
-returns-in-Ok g c = let e = ap begins c.in-Ok.ensures in record { value = e; prefix = begins_law _ _ _ e }
+pub returns-in-Ok-clause-prefix : goal.returns-in-Ok-clause-prefix
+returns-in-Ok-clause-prefix g c = begins_law _ _ _ (ap begins c.in-Ok.ensures)
 
-pub returns-in-Incomplete : goal.returns-in-Incomplete
-returns-in-Incomplete g c = let e = ap begins c.in-Incomplete.ensures in record { value = e; prefix = begins_law _ _ _ e }
-
-pub returns-in-Error : goal.returns-in-Error
-returns-in-Error g c = let e = ap begins c.in-Error.ensures in record { value = e; prefix = begins_law _ _ _ e }
+pub returns-in_default : goal.returns-in_default
+returns-in_default g c =
+    let e = begins_not _ c.in_default.not-Ok ∙ ap begins c.compare.ensures in
+    record { value = e; prefix = begins_law _ _ _ e }

@@ -1,5 +1,0 @@
-use Rattle.std.proofs.Common.{arith, length-take}
-use Rattle.sink.proofs.sheet.SheetSink.len.Goals as goal
-
-pub returns : goal.returns
-returns g c = simp length-take (omega arith)

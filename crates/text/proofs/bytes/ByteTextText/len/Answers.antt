@@ -1,6 +1,0 @@
-use Rattle.std.proofs.Common.{sym}
-use Rattle.text.specs.Singles.{total-singles}
-use Rattle.text.proofs.bytes.ByteTextText.len.Goals as goal
-
-pub returns : goal.returns
-returns c = sym (total-singles c.args.self.now.bytes.now)
