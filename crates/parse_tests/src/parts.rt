@@ -9,6 +9,7 @@ use parse::{Done, ErrorKind, Fault, Function, ParseError, Parser, Stopped};
 use sink::Sink;
 use text::{Input, Is, Manner};
 
+// The cast widens a byte: with `u32::from` this crate was not proved.
 pub fn item(byte: u8) -> Satisfy<Is> {
     Satisfy {
         test: Is { code: byte as u32 },

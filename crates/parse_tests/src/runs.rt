@@ -82,6 +82,7 @@ pub fn run<
         peak,
     } = parse::check::<u32, Error, _, _, _>(parser, text, manner);
     assert_eq!(rt; &outcome_of(answer), expected, "{source:?}");
+    // `as`, since a `u32` has no `From` into a `usize`
     assert_eq!(rt; count as usize, items.len(), "{source:?}");
     assert_eq!(rt; peak as usize, *most, "{source:?}");
     for free in 0..=PLACES {
