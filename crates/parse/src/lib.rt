@@ -89,7 +89,7 @@ impl<E: fmt::Debug> fmt::Display for Fault<E> {
 
 // What a check tells of a run that is done: the remainder, the output, how many items `emit` would append, and the most
 // that would stand at one moment. Both numbers stop at 4,294,967,295.
-#[derive(Drop)]
+#[derive(PartialEq, Eq, Debug, Drop)]
 pub struct Done<T, O> {
     pub rest: T,
     pub output: O,
@@ -98,7 +98,7 @@ pub struct Done<T, O> {
 }
 
 // What a check tells of a run that is not done: why, and the most items that stood at one moment before.
-#[derive(Drop)]
+#[derive(PartialEq, Eq, Debug, Drop)]
 pub struct Stopped<E> {
     pub fault: Fault<E>,
     pub peak: u32,

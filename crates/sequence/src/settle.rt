@@ -24,7 +24,8 @@ impl<B: Drop, E: ParseError> Settle<E> for Option<B> {
     ghost settled = { λ s v. ok_or v (E.made s MapOptKind) };
 
     fn settle(self, input: Span) -> Result<B, E> {
-        self.ok_or(E::from_error_kind(input, ErrorKind::MapOpt))
+        // no `ok_or`: an error is made only where there is no value
+        self.ok_or_else(|| E::from_error_kind(input, ErrorKind::MapOpt))
     }
 }
 

@@ -1,5 +1,5 @@
 -- Items against a tag's items, and the search for a tag. Assumes nothing.
-use Rattle.std.proofs.Common.{◌≡◌, ℕ, ◌+◌, ◌-◌, ◌≤◌, Bool, true, false, ◌&&◌, cond, eqb, List, [], ◌∷◌, Some, None, Option, sym, refl, ap, ◌∙◌, subst, ⊎_elim, add-zero, arith}
+use Rattle.std.proofs.Common.{◌≡◌, ℕ, ◌+◌, ◌-◌, ◌≤◌, Bool, true, false, ◌&&◌, cond, eqb, ◌⊎◌, List, [], ◌∷◌, length, Some, None, Option, sym, refl, ap, ◌∙◌, subst, inl, inr, ⊎_elim, add-zero, arith}
 use Rattle.std.proofs.lemmas.Bool.{cases_lt, cases_eq, cases_Bool, and_parts, and_left, eq-eqb, ne_eqb, eqb-true, false≢true, cond-true, cond-false}
 use Rattle.std.specs.List.{starts_with}
 use Rattle.text.specs.declared.CompareResult.{CompareResult}
@@ -41,11 +41,11 @@ bytes_short (x ∷ xs) (t ∷ ts) h k =
     let e = eqb-true x t p.0 in
     bytes_short xs ts (second_false _ _ (eq-eqb t x (sym e)) h) p.1 ∙ sym (matched_more x t (singles xs) (singles ts) e)
 
-pub bytes_apart : (xs ts : List ℕ) → starts_with eqb xs ts ≡ false → starts_with eqb ts xs ≡ false → compared.Error ≡ matched (singles xs) (singles ts)
+pub bytes_apart : (xs ts : List ℕ) → starts_with eqb xs ts ≡ false → (starts_with eqb ts xs ≡ false) ⊎ (length ts ≤ length xs) → compared.Error ≡ matched (singles xs) (singles ts)
 bytes_apart xs [] h k = absurd (false≢true (sym h))
-bytes_apart [] (t ∷ ts) h k = absurd (false≢true (sym k))
+bytes_apart [] (t ∷ ts) h k = ⊎_elim (λ e. absurd (false≢true (sym e))) (λ l. absurd (omega arith)) k
 bytes_apart (x ∷ xs) (t ∷ ts) h k = ⊎_elim
-    (λ e. bytes_apart xs ts (second_false _ _ (eq-eqb t x (sym e)) h) (second_false _ _ (eq-eqb x t e) k) ∙ sym (matched_more x t (singles xs) (singles ts) e))
+    (λ e. bytes_apart xs ts (second_false _ _ (eq-eqb t x (sym e)) h) (⊎_elim (λ n. inl (second_false _ _ (eq-eqb x t e) n)) (λ l. inr (omega arith)) k) ∙ sym (matched_more x t (singles xs) (singles ts) e))
     (λ n. sym (matched_apart x t (singles xs) (singles ts) n))
     (cases_eq x t)
 

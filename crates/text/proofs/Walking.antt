@@ -1,5 +1,5 @@
 -- Walks over the items of a span: to the first that meets a test, over so many, and counting. Assumes nothing.
-use Rattle.std.proofs.Common.{◌≡◌, ℕ, zero, suc, ◌+◌, ◌-◌, ◌<◌, ◌≤◌, Bool, true, false, cond, leb, List, [], ◌∷◌, length, get_or, take, drop, Ok, Err, Result, sym, refl, ap, ◌∙◌, subst, ⊎_elim, add-zero, zero-add, arith}
+use Rattle.std.proofs.Common.{◌≡◌, ℕ, zero, suc, ◌+◌, ◌-◌, ◌<◌, ◌≤◌, Bool, true, false, cond, leb, List, [], ◌∷◌, length, get_or, take, drop, Some, None, Ok, Err, Result, sym, refl, ap, ◌∙◌, subst, ⊎_elim, add-zero, zero-add, arith}
 use native.Mathlib.Nat.{sub-zero}
 use lib.Dec.{leb-zero, leb-suc-suc}
 use Rattle.std.proofs.lemmas.Bool.{cases_Bool, cond-true, cond-false, le-leb, lt-leb}
@@ -32,6 +32,45 @@ module _ (p : ℕ → Bool) (cs : List Cell) (e : ℕ) (solid : Solid cs) where
   pub until_within : (s u : ℕ) → Within cs s e → u ≡ until p (cut cs s e) → Within cs (s + u) e
   until_within s u w k =
       subst (λ u. Within cs (s + u) e) (sym k) (along (λ x. Within cs x e) (cut cs s e) s refl w w (λ at c on b h. on.within))
+
+  -- the item there meets the test
+  meets : (l : List Cell) (s : ℕ) → cut cs s e ≡ l → Within cs s e → (c : Cell) → Some c ≡ first (cut cs (s + until p l) e) → p c.0 ≡ true
+  meets [] s z w c h = absurd (let k : Some c ≡ None = h ∙ ap (λ x. first (cut cs x e)) (add-zero s) ∙ ap first z in let z : ◌≡◌ {A = ℕ} 0 1 = cc in omega arith)
+  meets (d ∷ l) s z w c h =
+      ⊎_elim
+      (λ b.
+      let u : until p (d ∷ l) ≡ 0 = cond-true _ _ _ b in
+      let k : Some c ≡ Some d = h ∙ ap (λ x. first (cut cs (s + x) e)) u ∙ ap (λ x. first (cut cs x e)) (add-zero s) ∙ ap first z in
+      let same : d ≡ c = cc in
+      ap (λ x. p x.0) (sym same) ∙ b)
+      (λ b.
+      let n = next d l s z w in
+      let u : until p (d ∷ l) ≡ d.1 + until p l = cond-false _ _ _ b in
+      let sum : s + (d.1 + until p l) ≡ s + d.1 + until p l = omega arith in
+      meets l (s + d.1) n.1 n.0.within c (h ∙ ap (λ x. first (cut cs (s + x) e)) u ∙ ap (λ x. first (cut cs x e)) sum))
+      (cases_Bool (p d.0))
+
+  pub until_meets : (s u : ℕ) → Within cs s e → u ≡ until p (cut cs s e) → (c : Cell) → Some c ≡ first (cut cs (s + u) e) → p c.0 ≡ true
+  until_meets s u w k c h = meets (cut cs s e) s refl w c (h ∙ ap (λ x. first (cut cs (s + x) e)) k)
+
+  -- a count of the items that meet the test, out of `all`, has come to byte `at`
+  pub record Counting (all at count : ℕ) : Type 0 where
+    pub within : Within cs at e
+    pub few : count ≤ at + 1
+    pub so_far : count + counted p (cut cs at e) ≡ all
+
+  -- to the next such item: none is passed over
+  pub count_next : (all at count u : ℕ) → Counting all at count → u ≡ until p (cut cs at e) → Counting all (at + u) count
+  count_next all at count u here k =
+      subst (λ u. Counting all (at + u) count) (sym k) (along (λ x. Counting all x count) (cut cs at e) at refl here.within here (λ x c on b r.
+      let same : counted p (cut cs x e) ≡ counted p (cut cs (x + c.1) e) = ap (counted p) on.cuts ∙ cond-false _ _ _ b in
+      record { within = on.within; few = omega (arith, r.few); so_far = omega (arith, same, r.so_far) }))
+
+  -- over that item
+  pub count_on : (all at count : ℕ) (c : Cell) → Counting all at count → On cs at e c → p c.0 ≡ true → Counting all (at + c.1) (count + 1)
+  count_on all at count c here on b =
+      let one : counted p (cut cs at e) ≡ suc (counted p (cut cs (at + c.1) e)) = ap (counted p) on.cuts ∙ cond-true _ _ _ b in
+      record { within = on.within; few = omega (arith, here.few, on.wide); so_far = omega (arith, one, here.so_far) }
 
 -- the same over bytes
 module _ (p : ℕ → Bool) (bs : List ℕ) (at : ℕ) where

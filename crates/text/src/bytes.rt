@@ -122,7 +122,7 @@ pub fn compare_bytes(text: &[u8], tag: &[u8]) -> CompareResult
 {
     if text.starts_with(tag) {
         CompareResult::Ok
-    } else if tag.starts_with(text) {
+    } else if text.len() < tag.len() && tag.starts_with(text) {
         CompareResult::Incomplete
     } else {
         CompareResult::Error
@@ -130,10 +130,15 @@ pub fn compare_bytes(text: &[u8], tag: &[u8]) -> CompareResult
 }
 
 // How many bytes come before the first that is `byte`: all of them where none is, as `Input::position_of` answers.
+#[inline(always)]
 pub fn find_byte(bytes: &[u8], byte: u8) -> usize
     ensures value { result ≡ until (is byte) (singles bytes.now) }
     ensures first { FirstByte bytes.now byte result }
 {
+    // where tags are searched for, the byte often stands at the front: that is told with no call
+    if bytes.first() == Some(&byte) {
+        return 0;
+    }
     memchr(byte, bytes).unwrap_or(bytes.len())
 }
 

@@ -17,7 +17,9 @@ impl<T: Input> Items<T> {
     pub fn new(input: &T) -> Items<T>
         ensures { part (T.cells result.rest) (T.place result.rest) ≡ part (T.cells input.now) (T.place input.now) }
     {
-        Items { rest: *input }
+        Items {
+            rest: input.again(),
+        }
     }
 }
 
@@ -50,6 +52,16 @@ pub fn count_lines<T: Input>(input: &T) -> usize
     ensures value { result ≡ lines (part (T.cells input.now) (T.place input.now)) }
     ensures pieces { Lines (part (T.cells input.now) (T.place input.now)) result }
 {
-    let ends = Items::new(input).filter(|item| item.0 == LINE_END).count();
-    ends + 1
+    let mut rest = input.again();
+    let mut count = 1;
+    // no walk of `Items`: inside a line, a step passes over all the items up to the line's end
+    while let Some((code, width)) = rest.item() {
+        if code == LINE_END {
+            rest = rest.take_from(width);
+            count += 1;
+        } else {
+            rest = rest.take_from(rest.position_of(LINE_END));
+        }
+    }
+    count
 }

@@ -211,7 +211,7 @@ pub trait Needle {
 
 // A text, and a span of it that is to be read. Its items to be read are `part (cells t) (place t)`: a ghost member for
 // them would be one more thing to implement, and a law that ties it to these two.
-pub trait Input: Copy {
+pub trait Input: Sized + Drop {
     type Tag: Needle + Drop;
 
     // the whole text's meaning: its items, each a code and a width
@@ -311,6 +311,15 @@ pub trait Input: Copy {
             end: span.start + len,
         };
         (self.take_from(len), self.at(front))
+    }
+
+    // The same input once more.
+    fn again(&self) -> Self
+        ensures cells { cells result ≡ cells self.now }
+        ensures raw { raw result ≡ raw self.now }
+        ensures place { place result ≡ place self.now }
+    {
+        self.at(self.span())
     }
 
     // The whole text.

@@ -6,6 +6,9 @@ ghost use Rattle.text.specs.Laws.{Begins, FirstPlace};
 
 use super::{CompareResult, Input, Needle};
 
+// Counting is asked of any input too; it stands with the iterator over items.
+pub use super::items::{count_items, count_lines};
+
 // Whether the input begins with the tag.
 pub fn starts_with<T: Input>(input: &T, tag: &T::Tag) -> bool
     ensures value { result ≡ begins (matched (part (T.cells input.now) (T.place input.now)) (T.Tag.Needle.spelt tag.now)) }
@@ -27,7 +30,7 @@ pub fn find<T: Input>(input: &T, tag: &T::Tag) -> Option<usize>
         return Some(0);
     };
     let start = input.span().start;
-    let mut rest = *input;
+    let mut rest = input.again();
     // no walk of `Items`: a step passes over all the items up to the next that the tag could begin at
     loop {
         rest = rest.take_from(rest.position_of(code));

@@ -137,7 +137,7 @@ complete (c ∷ cs) (b ∷ bs) e t =
     let rest : Octets (drop r.row.tails bs) (codes cs) = complete cs (drop r.row.tails bs) (ap scan (sym on) ∙ p.1) (omega arith) in
     subst (λ l. Octets (b ∷ l) (c.0 ∷ codes cs)) (take-append-drop r.row.tails bs) (more (read_char b bs c r) rest)
 
-well_octets : (bs : List ℕ) → WellFormed bs → Octets bs (codes (scan bs))
+pub well_octets : (bs : List ℕ) → WellFormed bs → Octets bs (codes (scan bs))
 well_octets bs w = complete (scan bs) bs refl w
 
 pub well_utf8 : (bs : List ℕ) → WellFormed bs → Utf8 bs

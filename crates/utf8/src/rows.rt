@@ -17,6 +17,12 @@ impl Bounds {
     }
 }
 
+// The bytes that follow a lead byte, but for the first of these.
+pub(crate) const TAIL: Bounds = Bounds {
+    low: 0x80,
+    high: 0xBF,
+};
+
 // The lead bytes of one range.
 #[derive(Clone, Copy)]
 pub struct Row {

@@ -122,7 +122,7 @@ impl<'a> TryFrom<&'a [u8]> for Utf8Text<'a> {
 
     ghost try_from_gives = { λ bytes r. Made
         (utf8_text_check bytes.now)
-        (λ t. (t.bytes.now ≡ bytes.now) × (t.span ≡ record { start = 0; end = length bytes.now }) × (part (scan t.bytes.now) t.span ≡ scan t.bytes.now)) r };
+        (λ t. (t.bytes.now ≡ bytes.now) × (t.span ≡ record { start = 0; end = length bytes.now }) × (part (scan t.bytes.now) t.span ≡ scan t.bytes.now) × Octets t.bytes.now (codes (scan t.bytes.now))) r };
 
     fn try_from(bytes: &'a [u8]) -> Result<Utf8Text<'a>, Refusal> {
         Utf8Text::check(bytes)?;
@@ -239,7 +239,7 @@ impl<'a> Input for Utf8Text<'a> {
     fn position<P: Predicate>(&self, predicate: &P) -> usize {
         let bytes = self.bytes();
         let mut rest = bytes;
-        // over `char_indices` or `Items` it is slower than Rust's own (docs/DESIGN-PASS.md)
+        // over `char_indices` it is slower than Rust's own (docs/DESIGN-PASS.md)
         while !rest.is_empty() {
             let (code, after) = split_char(rest);
             if predicate.test(code) {
@@ -250,6 +250,8 @@ impl<'a> Input for Utf8Text<'a> {
         bytes.len() - rest.len()
     }
 
+    // taken into `find`, which asks at each place where a tag may begin
+    #[inline(always)]
     fn position_of(&self, code: u32) -> usize {
         match u8::try_from(code) {
             Ok(byte @ ..0x80) => find_byte(self.bytes(), byte),
