@@ -59,6 +59,9 @@ impl fmt::Display for Report {
     }
 }
 
+// Not taken into `main`'s code, where a loop may begin at any address: the one over items lay with a jump across a boundary
+// of 32 bytes there, and took half as long again (docs/SPEED.md). In a function of its own it begins at a multiple of 16.
+#[inline(never)]
 fn count<T: Input>(text: &T) -> Counts
     ensures { result ≡ counts_of (part (T.cells text.now) (T.place text.now)) }
 {

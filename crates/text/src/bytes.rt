@@ -135,9 +135,17 @@ pub fn find_byte(bytes: &[u8], byte: u8) -> usize
     ensures value { result ≡ until (is byte) (singles bytes.now) }
     ensures first { FirstByte bytes.now byte result }
 {
-    // where tags are searched for, the byte often stands at the front: that is told with no call
-    if bytes.first() == Some(&byte) {
-        return 0;
+    // where tags are searched for, or short lines counted, the byte is often near: that is told with no call
+    if let [first, second, third, ..] = bytes {
+        if *first == byte {
+            return 0;
+        }
+        if *second == byte {
+            return 1;
+        }
+        if *third == byte {
+            return 2;
+        }
     }
     memchr(byte, bytes).unwrap_or(bytes.len())
 }

@@ -54,14 +54,13 @@ pub fn count_lines<T: Input>(input: &T) -> usize
 {
     let mut rest = input.again();
     let mut count = 1;
-    // no walk of `Items`: inside a line, a step passes over all the items up to the line's end
-    while let Some((code, width)) = rest.item() {
-        if code == LINE_END {
-            rest = rest.take_from(width);
-            count += 1;
-        } else {
-            rest = rest.take_from(rest.position_of(LINE_END));
-        }
+    // no walk of `Items`: a step passes over all the items up to the line's end
+    loop {
+        rest = rest.take_from(rest.position_of(LINE_END));
+        let Some((_, width)) = rest.item() else {
+            return count;
+        };
+        rest = rest.take_from(width);
+        count += 1;
     }
-    count
 }
